@@ -179,12 +179,12 @@ members_of other = no_members
 abbrev pub as_setup : Data → Members
 as_setup given = member (codes "scripts") (table (member (codes "setup") given no_members)) no_members
 
-abbrev pub file_over : Option Members → Members → Members
-file_over None file = file
-file_over (Some scripts) file = members_of (over (table scripts) (Some (table file)))
+abbrev pub scripts_over : Option Members → Members → Members
+scripts_over None file = file
+scripts_over (Some scripts) file = members_of (over (table scripts) (Some (table file)))
 
 abbrev pub file_with_setup : Members → Members
-file_with_setup file = file_over (option_map as_setup (get_member (codes "script") file)) file
+file_with_setup file = scripts_over (option_map as_setup (get_member (codes "script") file)) file
 
 -- what the sources that count come to, over what is built in
 abbrev pub merged_in : Members → List ConfigSource → Members

@@ -70,8 +70,9 @@ fn with_file(
     path: &str,
     file: Option<Table>,
 ) -> Result<Table, AllocError>
-    ensures tree { IfOk result (λ it. table (table_view it) ≡ tree_of_files
-        (table (table_view tree)) (map file_with_setup (option_to_list (option_map table_view file)))) }
+    ensures tree { let files = option_to_list (option_map table_view file) in IfOk result (λ it.
+        table (table_view it) ≡ tree_of_files
+        (table (table_view tree)) (map file_with_setup files)) }
     ensures kept { OnOk result
         (AreKept kept.old kept.new (warnings_at path.now (option_map table_view file))) }
 {

@@ -8,7 +8,8 @@ use Rattle.std.proofs.lemmas.List.{get_or-replicate, length-append, length-map, 
 use Rattle.std.proofs.lemmas.Slice.Zip.{AllZip-long}
 use Rattle.nextest_config_resolution_profiles.specs.Evaluatable.{Evaluatable}
 use Rattle.nextest_config_resolution_profiles.specs.RuleLaws.{NumberedRows}
-use Rattle.nextest_config_resolution_profiles.specs.HeldRules.{AreCarried, AreHeldColumns, AreNumbers, Columns, held_row, number_with, next_weight, row_at, row_number, row_weight, rule_count, value_at, weight_behind}
+use Rattle.nextest_config_resolution_profiles.specs.Carried.{AreCarried, number_with, weight_behind}
+use Rattle.nextest_config_resolution_profiles.specs.HeldRules.{AreHeldColumns, AreNumbers, Columns, held_row, next_weight, row_at, row_number, row_weight, rule_count, value_at}
 use Rattle.nextest_filtering_filters.specs.Query.{Binary, Test}
 
 -- ---- rows and their numbers

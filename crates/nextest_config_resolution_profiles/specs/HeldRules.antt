@@ -1,5 +1,5 @@
 -- Which rules of a profile hold on the tests of a binary, found at once for all of them.
-use Rattle.std.specs.Prelude.{◌≡◌, ℕ, zero, suc, nat_lt, ◌+◌, ◌*◌, ◌^◌, ◌%◌, ◌<◌, Bool, true, false, List, [], ◌∷◌, ◌++◌, Some, if◌then◌else◌, length, map, slice_get, slice_index, unwrap_or}
+use Rattle.std.specs.Prelude.{◌≡◌, ℕ, nat_lt, ◌+◌, ◌*◌, ◌^◌, ◌%◌, ◌<◌, Bool, true, false, List, [], ◌∷◌, ◌++◌, Some, if◌then◌else◌, length, map, slice_get, slice_index, unwrap_or}
 use Rattle.std.specs.List.{AllZip}
 use Rattle.nextest_config_resolution_profiles.specs.Evaluatable.{Evaluatable}
 use Rattle.nextest_config_resolution_profiles.specs.Held.{Holds}
@@ -75,11 +75,6 @@ rule_count it = length it.overrides + length it.scripts
 abbrev pub next_weight : ℕ → ℕ
 next_weight weight = if nat_lt weight (2 ^ 63) then weight * 2 else 1
 
--- the weight of the rule that stands so many places behind it
-abbrev pub weight_behind : ℕ → ℕ → ℕ
-weight_behind weight zero = weight
-weight_behind weight (suc count) = weight_behind (next_weight weight) count
-
 -- the weights of the rules at which a row is true, where the first rule has this one
 abbrev pub row_weight : ℕ → List Bool → ℕ
 row_weight weight [] = 0
@@ -93,12 +88,3 @@ row_number row = row_weight 1 row % 2 ^ 64
 pub record AreNumbers (row_of : ℕ → List Bool) (count : ℕ) (numbers : List ℕ) : Type 0 where
   pub counted : length numbers ≡ count
   pub each : (place : ℕ) → place < count → slice_index numbers place ≡ row_number (row_of place)
-
--- the number of a row with one more rule, of this weight
-abbrev pub number_with : ℕ → Bool → ℕ → ℕ
-number_with weight holds number = if holds then (number + weight) % 2 ^ 64 else number
-
--- what a loop over columns has made: numbers of what those so far say, and the weight of the rule behind them
-pub record AreCarried (columns : List (List Bool)) (count weight : ℕ) (carried : List ℕ) : Type 0 where
-  pub numbers : AreNumbers (λ place. row_at place columns) count carried
-  pub weighs : weight ≡ weight_behind 1 (length columns)

@@ -3,6 +3,7 @@ pub mod AnswerAlike
 pub mod Asking
 pub mod BuiltIn
 pub mod BuiltInLaws
+pub mod Carried
 pub mod ChainRules
 pub mod Chains
 pub mod Config

@@ -3,7 +3,8 @@ ghost use Rattle.std.specs.Prelude.{◌≡◌, ◌<◌, ◌++◌, ◌∷◌, ℕ
 ghost use Rattle.nextest_config_resolution_profiles.specs.Asking.{IsAskable};
 ghost use Rattle.nextest_config_resolution_profiles.specs.ChainRules.{rule_in, rules_in, seen_rule, seen_rules};
 ghost use Rattle.nextest_config_resolution_profiles.specs.Held.{AreSettingsFor, placed_of};
-ghost use Rattle.nextest_config_resolution_profiles.specs.HeldRules.{AreCarried, AreColumns, AreHeldColumns, AreNumbers, IsColumn, IsHeldRow, TellsEach, held_row, next_weight, number_with, rule_count, rules_at, row_at, value_at};
+ghost use Rattle.nextest_config_resolution_profiles.specs.Carried.{AreCarried, number_with};
+ghost use Rattle.nextest_config_resolution_profiles.specs.HeldRules.{AreColumns, AreHeldColumns, AreNumbers, IsColumn, IsHeldRow, TellsEach, held_row, next_weight, rule_count, rules_at, row_at, value_at};
 ghost use Rattle.nextest_config_resolution_settings.specs.Nearest.{lent_layers};
 ghost use Rattle.nextest_config_resolution_settings.specs.Tracking.{TellsNothing};
 ghost use Rattle.nextest_filtering_filters.specs.Query.{Test, binary_of};

@@ -12,6 +12,17 @@ use Rattle.nextest_config_resolution_load.proofs.loading.read_sources.Goals as g
 use Rattle.nextest_config_resolution_sources.specs.Counting.{counting_sources}
 use Rattle.nextest_config_resolution_sources.specs.declared.source.ConfigSource.{ConfigSource}
 
+-- what the lent sources are
+counted : (sources : List ConfigSource) (lent listed : List (Bor ConfigSource)) → lent ≡ listed → map (λ it. it.now) listed ≡ counting_sources sources
+    → map (λ it. it.now) lent ≡ counting_sources sources
+counted sources lent listed same are = ap (λ (them : List (Bor ConfigSource)). map (λ it. it.now) them) same ∙ are
+
+-- and what their files come to
+merged : (built_in : Members) (sources all : List ConfigSource) (tree : Members) → all ≡ counting_sources sources
+    → table tree ≡ tree_of_files (table built_in) (map file_with_setup (filter_map file_of all)) → tree ≡ merged_in built_in sources
+merged built_in sources all tree same is =
+    ap members_of (is ∙ ap (λ (them : List ConfigSource). tree_of_files (table built_in) (map file_with_setup (filter_map file_of them))) same)
+
 pub returns-in_err-read-clause-read : goal.returns-in_err-read-clause-read
 returns-in_err-read-clause-read g c =
     let Is = g.R.Languages.is_filter c.args.cx.now in
@@ -21,8 +32,7 @@ returns-in_err-read-clause-read g c =
     let built_in = table_view c.args.built_in.now in
     let sources = c.args.sources.now in
     let told = c.in_err-read.field-0.0 in
-    let same : map (λ it. it.now) c.as_slice.result.now ≡ counting_sources sources =
-    ap (λ (lent : List (Bor ConfigSource)). map (λ it. it.now) lent) c.as_slice.ensures.value ∙ c.in_ok-counted.ensures in
+    let same = counted sources c.as_slice.result.now _ c.as_slice.ensures.value c.in_ok-counted.ensures in
     passes_on Is IsSpec IsTooDeep (AreReadSources Is IsSpec built_in sources) (early_checks features built_in sources) told c.from_residual-in_err-read.result
     (refuses_before Is IsSpec IsTooDeep (flat_map (source_checks features) (counting_sources sources)) (value_checks bad_merged (config_in (merged_in built_in sources))) told
     (subst (λ (all : List ConfigSource). RefusesFor Is IsSpec IsTooDeep (flat_map (source_checks features) all) told) same c.in_err-read.ensures.read))
@@ -37,10 +47,8 @@ returns-in_err-config-clause-read g c =
     let built_in = table_view c.args.built_in.now in
     let sources = c.args.sources.now in
     let told = c.in_err-config.field-0.0 in
-    let same : map (λ it. it.now) c.as_slice.result.now ≡ counting_sources sources =
-    ap (λ (lent : List (Bor ConfigSource)). map (λ it. it.now) lent) c.as_slice.ensures.value ∙ c.in_ok-counted.ensures in
-    let tree : table_view c.in_ok-read.read.tree ≡ merged_in built_in sources =
-    ap members_of (c.in_ok-read.ensures.read.1.tree ∙ ap (λ (all : List ConfigSource). tree_of_files (table built_in) (map file_with_setup (filter_map file_of all))) same) in
+    let same = counted sources c.as_slice.result.now _ c.as_slice.ensures.value c.in_ok-counted.ensures in
+    let tree = merged built_in sources (map (λ it. it.now) c.as_slice.result.now) (table_view c.in_ok-read.read.tree) same c.in_ok-read.ensures.read.1.tree in
     passes_on Is IsSpec IsTooDeep (AreReadSources Is IsSpec built_in sources) (early_checks features built_in sources) told c.from_residual-in_err-config.result
     (refuses_behind Is IsSpec IsTooDeep (flat_map (source_checks features) (counting_sources sources)) (value_checks bad_merged (config_in (merged_in built_in sources))) told
     (subst (λ (all : List ConfigSource). AllByRecursion (IsKept Is IsSpec) (flat_map (source_checks features) all)) same c.in_ok-read.ensures.read.0)
@@ -56,10 +64,8 @@ returns-clause-read g c =
     let sources = c.args.sources.now in
     let config = c.in_ok-config.config in
     let read = c.in_ok-read.read in
-    let same : map (λ it. it.now) c.as_slice.result.now ≡ counting_sources sources =
-    ap (λ (lent : List (Bor ConfigSource)). map (λ it. it.now) lent) c.as_slice.ensures.value ∙ c.in_ok-counted.ensures in
-    let tree : table_view read.tree ≡ merged_in built_in sources =
-    ap members_of (c.in_ok-read.ensures.read.1.tree ∙ ap (λ (all : List ConfigSource). tree_of_files (table built_in) (map file_with_setup (filter_map file_of all))) same) in (
+    let same = counted sources c.as_slice.result.now _ c.as_slice.ensures.value c.in_ok-counted.ensures in
+    let tree = merged built_in sources (map (λ it. it.now) c.as_slice.result.now) (table_view read.tree) same c.in_ok-read.ensures.read.1.tree in (
       kept_both Is IsSpec g.R.Languages.is_too_deep (flat_map (source_checks features) (counting_sources sources)) (value_checks bad_merged (config_in (merged_in built_in sources)))
           (subst (λ (all : List ConfigSource). AllByRecursion (IsKept Is IsSpec) (flat_map (source_checks features) all)) same c.in_ok-read.ensures.read.0)
           (subst (λ (top : Members). AllByRecursion (IsKept Is IsSpec) (value_checks bad_merged (config_in top))) tree c.in_ok-config.ensures.read.0),
@@ -72,6 +78,5 @@ returns-clause-read g c =
 
 pub returns-clause-kept : goal.returns-clause-kept
 returns-clause-kept g c =
-    let same : map (λ it. it.now) c.as_slice.result.now ≡ counting_sources c.args.sources.now =
-    ap (λ (lent : List (Bor ConfigSource)). map (λ it. it.now) lent) c.as_slice.ensures.value ∙ c.in_ok-counted.ensures in
+    let same = counted c.args.sources.now c.as_slice.result.now _ c.as_slice.ensures.value c.in_ok-counted.ensures in
     subst (λ (all : List ConfigSource). AreKept c.args.kept.now c.read_files.new.kept (flat_map warnings_for all)) same c.in_ok-read.ensures.kept

@@ -1,5 +1,6 @@
 use Rattle.std.proofs.Common.{◌≡◌, ℕ, ◌<◌, ◌≤◌, length, get_or}
-use Rattle.nextest_config_resolution_profiles.specs.HeldRules.{number_with, value_at}
+use Rattle.nextest_config_resolution_profiles.specs.Carried.{number_with}
+use Rattle.nextest_config_resolution_profiles.specs.HeldRules.{value_at}
 use Rattle.nextest_config_resolution_profiles.proofs.held_rules.add_column.Given as goal
 
 -- the numbers so far have the column's values, and those behind them are as they were

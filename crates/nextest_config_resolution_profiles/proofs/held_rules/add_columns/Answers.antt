@@ -1,6 +1,7 @@
 use Rattle.std.proofs.Common.{◌++◌, ◌∙◌, Bool, List, ap, get_or, map, subst}
 use Rattle.std.proofs.lemmas.List.{take_all}
-use Rattle.nextest_config_resolution_profiles.specs.HeldRules.{AreCarried, number_with, value_at}
+use Rattle.nextest_config_resolution_profiles.specs.Carried.{AreCarried, number_with}
+use Rattle.nextest_config_resolution_profiles.specs.HeldRules.{value_at}
 use Rattle.nextest_config_resolution_profiles.proofs.RowNumbers.{carried_next}
 use Rattle.nextest_config_resolution_profiles.proofs.held_rules.add_columns.Goals as goal
 

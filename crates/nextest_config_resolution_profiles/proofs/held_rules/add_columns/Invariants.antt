@@ -1,5 +1,5 @@
 use Rattle.std.proofs.Common.{◌++◌, ℕ, List, Bool, map, take}
-use Rattle.nextest_config_resolution_profiles.specs.HeldRules.{AreCarried}
+use Rattle.nextest_config_resolution_profiles.specs.Carried.{AreCarried}
 use Rattle.nextest_config_resolution_profiles.proofs.held_rules.add_columns.Given as goal
 
 -- the columns so far are in

@@ -1,5 +1,6 @@
 use Rattle.std.proofs.Common.{◌≡◌, ◌++◌, ◌∙◌, Bool, List, [], ap, map, replicate, subst, sym}
-use Rattle.nextest_config_resolution_profiles.specs.HeldRules.{AreCarried, AreNumbers, Columns, held_row}
+use Rattle.nextest_config_resolution_profiles.specs.Carried.{AreCarried}
+use Rattle.nextest_config_resolution_profiles.specs.HeldRules.{AreNumbers, Columns, held_row}
 use Rattle.nextest_config_resolution_profiles.proofs.RowNumbers.{all_carried, given_back, none_carried}
 use Rattle.nextest_config_resolution_profiles.proofs.held_rules.HeldRules.numbers.Goals as goal
 
