@@ -96,10 +96,11 @@ before_named id name test other same less =
 
 -- ---- places
 
--- where a test of the name stands, none of the name stands before it
-pub stands : (tests : List PlanTest) (id name : List ℕ) (place : ℕ) → IsStrictlySortedBy instance_cmp (names tests)
+-- a place has the first test of the name, where it has one, and those before it have other names
+pub first_named : (tests : List PlanTest) (id name : List ℕ) (place : ℕ)
+    → ((test : PlanTest) → place < length tests → has id name (get_or tests place test) ≡ true → (j : ℕ) → j < place → has id name (get_or tests j test) ≡ false)
     → option_map_or (has id name) (slice_get tests place) false ≡ true → place ≡ place_of (names tests) id name
-stands tests id name place rise = found (slice_get tests place) refl
+first_named tests id name place apart = found (slice_get tests place) refl
   where
     found : (o : Option PlanTest) → slice_get tests place ≡ o → option_map_or (has id name) o false ≡ true → place ≡ place_of (names tests) id name
     found None is h = cc
@@ -107,11 +108,28 @@ stands tests id name place rise = found (slice_get tests place) refl
         let within = slice_get_within tests place test is in
         let at : get_or tests place test ≡ test = get_or_from_slice_get tests place test test is in
         let here : has id name (get_or tests place test) ≡ true = ap (has id name) at ∙ h in
-        let first = first_from (has id name) tests 0 place test within here
-        (λ j below. below_it id name (get_or tests j test)
-        (before_named id name (get_or tests j test) (get_or tests place test) here (rising tests j place test rise below within))) in
+        let first = first_from (has id name) tests 0 place test within here (apart test within here) in
         let zero_more : 0 + place ≡ place = omega arith in
         sym (ap (λ (o : Option ℕ). unwrap_or o (length (names tests))) (by_name id name tests 0 ∙ first ∙ ap (λ (n : ℕ). Some n) zero_more))
+
+-- and one past the end has none, where all have other names
+pub none_named : (tests : List PlanTest) (id name : List ℕ) → ((j : ℕ) (d : PlanTest) → j < length tests → has id name (get_or tests j d) ≡ false)
+    → length tests ≡ place_of (names tests) id name
+none_named tests id name apart =
+    sym (ap (λ (o : Option ℕ). unwrap_or o (length (names tests))) (by_name id name tests 0 ∙ none_from (has id name) tests 0 apart) ∙ length_names tests)
+
+-- where a test of the name stands, none of the name stands before it
+pub stands : (tests : List PlanTest) (id name : List ℕ) (place : ℕ) → IsStrictlySortedBy instance_cmp (names tests)
+    → option_map_or (has id name) (slice_get tests place) false ≡ true → place ≡ place_of (names tests) id name
+stands tests id name place rise =
+    first_named tests id name place
+    (λ test within here j below. below_it id name (get_or tests j test)
+    (before_named id name (get_or tests j test) (get_or tests place test) here (rising tests j place test rise below within)))
+
+-- a test that was looked at has another name
+pub looked_at : (tests : List PlanTest) (id name : List ℕ) (j : ℕ) (d : PlanTest) → j < length tests → option_map_or (has id name) (slice_get tests j) false ≡ false
+    → has id name (get_or tests j d) ≡ false
+looked_at tests id name j d inside apart = sym (ap (λ (o : Option PlanTest). option_map_or (has id name) o false) (slice_get-get_or tests j d inside)) ∙ apart
 
 -- a test of the name at a place, by the tests' names
 pub at_name : (id name : List ℕ) (tests : List PlanTest) (place : ℕ)
@@ -134,8 +152,7 @@ pub stands_nowhere : (tests : List PlanTest) (id name : List ℕ) (place : ℕ) 
     → AllWithin (λ test. is_lt (instance_cmp test.instance (one id name)) ≡ false) tests place (length tests)
     → option_map_or (has id name) (slice_get tests place) false ≡ false → length tests ≡ place_of (names tests) id name
 stands_nowhere tests id name place rise under over missing =
-    let none = none_from (has id name) tests 0 (λ j d inside. each j d inside) in
-    sym (ap (λ (o : Option ℕ). unwrap_or o (length (names tests))) (by_name id name tests 0 ∙ none) ∙ length_names tests)
+    none_named tests id name (λ j d inside. each j d inside)
   where
     each : (j : ℕ) (d : PlanTest) → j < length tests → has id name (get_or tests j d) ≡ false
     each j d inside =

@@ -1,6 +1,5 @@
 -- The places of tests and scripts by their names.
-use Rattle.std.specs.Prelude.{◌≡◌, ℕ, ◌<◌, Bool, true, false, IsTrue, ◌&&◌, List, length, map, Option, None, Some, slice_get}
-use Rattle.std.specs.Global.{Vec}
+use Rattle.std.specs.Prelude.{◌≡◌, ℕ, ◌<◌, Bool, true, false, IsTrue, ◌&&◌, List, length, map, Option, Some, slice_get, ⊤}
 use Rattle.std.specs.List.{All, Contains, position_from}
 use Rattle.std.specs.List.Sorted.{IsSorted, IsStrictlySortedBy}
 use Rattle.std.specs.Option.{option_map_or, unwrap_or}
@@ -12,6 +11,8 @@ use Rattle.nextest_run_events_results.specs.declared.instance.TestInstanceId.{Te
 use Rattle.test_runner_core_plan.specs.Order.{instance_cmp}
 use Rattle.test_runner_core_plan.specs.declared.plan.PlanTest.{PlanTest}
 use Rattle.test_runner_core_session.specs.declared.places.Named.{Named}
+use Rattle.test_runner_core_session.specs.declared.places.Order.{Order}
+use Rattle.test_runner_core_session.specs.declared.places.Order.TheVariants as order
 
 -- a test has this binary id and name
 abbrev pub is_named : List ℕ → List ℕ → OwnedTestInstanceId → Bool
@@ -67,12 +68,13 @@ AreDistinct tests =
     → option_map_or (is_named id name) (slice_get tests place) false ≡ true
     → place ≡ place_of tests id name
 
--- tests are found by their names in order, or without these where they rise strictly
-abbrev pub IsFoundBy : Option (Vec Named) → List OwnedTestInstanceId → Type 0
-IsFoundBy None tests = IsStrictlySortedBy instance_cmp tests
-IsFoundBy (Some by_name) tests = AreByName by_name.items tests
+-- tests are found so by their names
+abbrev pub IsFoundBy : Order → List OwnedTestInstanceId → Type 0
+IsFoundBy order.Unknown tests = ⊤
+IsFoundBy order.Rising tests = IsStrictlySortedBy instance_cmp tests
+IsFoundBy (order.ByName by_name) tests = AreByName by_name.items tests
 
 -- tests are found so, and no two have one name where that is said of them
-abbrev pub KeepsPlaces : Option (Vec Named) → Bool → List OwnedTestInstanceId → Type 0
-KeepsPlaces by_name are_distinct tests =
-    IsFoundBy by_name tests × (IsTrue are_distinct → AreDistinct tests)
+abbrev pub KeepsPlaces : Order → Bool → List OwnedTestInstanceId → Type 0
+KeepsPlaces order are_distinct tests =
+    IsFoundBy order tests × (IsTrue are_distinct → AreDistinct tests)

@@ -4,7 +4,7 @@ ghost use Rattle.std.specs.List.Sorted.{IsStrictlySortedBy};
 ghost use Rattle.std.specs.Option.{option_map_or};
 ghost use Rattle.std.specs.Ordering.{is_lt};
 ghost use Rattle.test_runner_core_plan.specs.Order.{instance_cmp};
-ghost use Rattle.test_runner_core_session.specs.Names.{AreByName, AreNamed, RiseByName, is_named, name_of, named_cmp, names, place_among_tests, place_of};
+ghost use Rattle.test_runner_core_session.specs.Names.{AreByName, AreNamed, KeepsPlaces, RiseByName, is_named, name_of, named_cmp, names, place_among_tests, place_of};
 
 use crate::guesses::Guesses;
 use nextest_run_events_results::{OwnedTestInstanceId, TestInstanceId};
@@ -17,8 +17,8 @@ use test_runner_core_plan::PlanTest;
 #[derive(Drop)]
 pub(crate) struct Places<'a> {
     tests: &'a [PlanTest],
-    // Their names in order, where the tests don't rise by these, as without priorities they do.
-    by_name: Option<Vec<Named<'a>>>,
+    // How they are found by their names.
+    order: Order<'a>,
     // Whether it is known that no two tests have one name.
     are_distinct: bool,
     // Where they may stand, once one wasn't found where the look-up before leads.
@@ -30,6 +30,17 @@ pub(crate) struct Places<'a> {
     // Whether it was that of the look-up before or the next.
     in_turn: bool,
     alloc: Global,
+}
+
+// How tests are found by their names.
+#[derive(Drop)]
+enum Order<'a> {
+    // One after another is looked at: it isn't known how they stand.
+    Unknown,
+    // They rise by their names, as without priorities they do.
+    Rising,
+    // They don't, but these are their names in order.
+    ByName(Vec<Named<'a>>),
 }
 
 // The name of a test, and its place.
@@ -48,38 +59,37 @@ impl<'a> Model for Places<'a> {
 
     ghost view = { λ p. map (λ test. test.instance) p.tests.now };
 
-    ghost invariant = { λ p. KeepsPlaces p.by_name p.are_distinct (names p.tests.now) };
+    ghost invariant = { λ p. KeepsPlaces p.order p.are_distinct (names p.tests.now) };
 }
 
 impl<'a> Places<'a> {
-    // The places of these tests.
-    pub(crate) fn new(alloc: Global, tests: &'a [PlanTest]) -> Result<Places<'a>, AllocError>
-        ensures { IfOk result (λ places. places ≡ map (λ test. test.instance) tests.now) }
+    // The places of these tests, whose names aren't put in order yet. Takes no memory.
+    pub(crate) fn new(alloc: Global, tests: &'a [PlanTest]) -> Places<'a>
+        ensures { result ≡ map (λ test. test.instance) tests.now }
     {
-        if rise(tests) {
-            return Ok(Places {
-                tests,
-                by_name: None,
-                are_distinct: true,
-                guesses: None,
-                may_guess: true,
-                last: 0,
-                in_turn: true,
-                alloc,
-            });
-        }
-        let by_name = sorted_by_name(alloc, tests)?;
-        let are_distinct = differ(by_name.as_slice());
-        Ok(Places {
+        Places {
             tests,
-            by_name: Some(by_name),
-            are_distinct,
+            order: Order::Unknown,
+            are_distinct: false,
             guesses: None,
-            may_guess: are_distinct,
+            may_guess: true,
             last: 0,
             in_turn: true,
             alloc,
-        })
+        }
+    }
+
+    // Puts their names in order, where that isn't done yet, so that no look-up takes time in
+    // proportion to the tests. It fails only on allocation, and leaves everything as it was.
+    pub(crate) fn sort(&mut self) -> Result<(), AllocError>
+        ensures { self.new ≡ self.old }
+    {
+        if let Order::Unknown = self.order {
+            let (order, are_distinct) = ordered(self.alloc, self.tests)?;
+            self.order = order;
+            self.are_distinct = are_distinct;
+        }
+        Ok(())
     }
 
     // The place of the first test of this name, or one past the end where there is none: mostly it
@@ -104,9 +114,10 @@ impl<'a> Places<'a> {
                 }
             }
         }
-        match &self.by_name {
-            None => place_among(self.tests, test),
-            Some(by_name) => place_by_name(by_name.as_slice(), self.tests, test),
+        match &self.order {
+            Order::Unknown => first_place(self.tests, test),
+            Order::Rising => place_among(self.tests, test),
+            Order::ByName(by_name) => place_by_name(by_name.as_slice(), self.tests, test),
         }
     }
 
@@ -121,12 +132,37 @@ impl<'a> Places<'a> {
             self.in_turn = place == self.last.saturating_add(1);
             self.last = place;
         }
-        if !self.in_turn && self.may_guess {
+        if !self.in_turn && self.may_guess && self.are_distinct {
             self.may_guess = false;
             self.guesses = Guesses::new(self.alloc, self.tests).ok();
         }
         place
     }
+}
+
+// How these tests are found by their names in order, and whether it is known that no two have one.
+fn ordered<'a>(alloc: Global, tests: &'a [PlanTest]) -> Result<(Order<'a>, bool), AllocError>
+    ensures { IfOk result (λ it. KeepsPlaces it.0 it.1 (names tests.now)) }
+{
+    if rise(tests) {
+        return Ok((Order::Rising, true));
+    }
+    let by_name = sorted_by_name(alloc, tests)?;
+    let are_distinct = differ(by_name.as_slice());
+    Ok((Order::ByName(by_name), are_distinct))
+}
+
+// The place of the first test of this name, or one past the end, where one after another is looked
+// at.
+fn first_place(tests: &[PlanTest], test: TestInstanceId<'_>) -> usize
+    ensures { result ≡ place_among_tests tests.now test.entry }
+{
+    for place in 0..tests.len() {
+        if is_at(tests, place, test) {
+            return place;
+        }
+    }
+    tests.len()
 }
 
 // Whether the name of each test is greater than that of the test before it.

@@ -62,15 +62,25 @@ impl<'a, A: KeepAttempts> Model for PlanRun<'a, A> {
 
 impl<'a, A: KeepAttempts> PlanRun<'a, A> {
     /// The run in which nothing ended. Makes the room for each script's status and each test's
-    /// state. It fails only on allocation.
+    /// state, and puts the tests' names in order. It fails only on allocation.
     pub fn new(alloc: Global, plan: &'a Plan) -> Result<PlanRun<'a, A>, AllocError>
+        ensures { IfOk result (λ session. session ≡ session_of plan.now) }
+    {
+        let mut run = PlanRun::unsorted(alloc, plan)?;
+        run.sort_names()?;
+        Ok(run)
+    }
+
+    /// The same, whose tests' names aren't put in order yet: until `sort_names` does so, a look-up
+    /// takes time in proportion to the tests. It fails only on allocation.
+    pub fn unsorted(alloc: Global, plan: &'a Plan) -> Result<PlanRun<'a, A>, AllocError>
         ensures { IfOk result (λ session. session ≡ session_of plan.now) }
     {
         let tests = plan.tests.as_slice();
         let planned = planned_tests(alloc, tests)?;
         Ok(PlanRun {
             plan,
-            places: Places::new(alloc, tests)?,
+            places: Places::new(alloc, tests),
             progress: Progress::new(
                 alloc,
                 plan.scripts.len(),
@@ -79,6 +89,14 @@ impl<'a, A: KeepAttempts> PlanRun<'a, A> {
                 plan.skipped.len(),
             )?,
         })
+    }
+
+    /// Puts the tests' names in order, where that isn't done yet. Only time depends on it. It fails
+    /// only on allocation, and leaves everything as it was.
+    pub fn sort_names(&mut self) -> Result<(), AllocError>
+        ensures { self.new ≡ self.old }
+    {
+        self.places.sort()
     }
 
     /// An attempt of a test starts: reserves the room of its end. An `Err` says why it can't

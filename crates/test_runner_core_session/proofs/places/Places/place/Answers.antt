@@ -1,9 +1,9 @@
-use Rattle.std.proofs.Common.{List, Option, sym, ap, subst, ◌∙◌}
+use Rattle.std.proofs.Common.{List, sym, ap, subst, ◌∙◌}
 use Rattle.nextest_run_events_results.specs.declared.instance.OwnedTestInstanceId.{OwnedTestInstanceId}
 use Rattle.test_runner_core_session.proofs.Rising.{at_name}
-use Rattle.std.specs.Global.{Vec}
 use Rattle.test_runner_core_session.specs.Names.{AreByName, IsFoundBy, place_of, names}
 use Rattle.test_runner_core_session.specs.declared.places.Named.{Named}
+use Rattle.test_runner_core_session.specs.declared.places.Order.{Order}
 use Rattle.test_runner_core_session.proofs.places.Places.place.Goals as goal
 
 pub returns-then-is_at : goal.returns-then-is_at
@@ -27,7 +27,7 @@ pub place_by_name-requires : goal.place_by_name-requires
 place_by_name-requires c =
     let tests = names c.self.inside.tests.now in
     subst (λ (named : List Named). AreByName named tests) (sym c.as_slice.ensures.value)
-    (subst (λ (by_name : Option (Vec Named)). IsFoundBy by_name tests) c.in-Some-by_name.is c.self.invariant.0)
+    (subst (λ (order : Order). IsFoundBy order tests) c.in-ByName.is c.self.invariant.0)
 
 pub returns-in-Some-find : goal.returns-in-Some-find
 returns-in-Some-find c =

@@ -3,15 +3,15 @@ use Rattle.test_runner_core_session.proofs.ByName.{distinct_by_name}
 use Rattle.test_runner_core_session.proofs.Rising.{distinct}
 use Rattle.test_runner_core_session.specs.declared.places.Named.{Named}
 use Rattle.test_runner_core_session.specs.Names.{RiseByName, names}
-use Rattle.test_runner_core_session.proofs.places.Places.new.Goals as goal
+use Rattle.test_runner_core_session.proofs.places.ordered.Goals as goal
 
-pub invariant_of-result : goal.invariant_of-result
-invariant_of-result c =
+pub returns-then-rise : goal.returns-then-rise
+returns-then-rise c =
     let rising = c.rise.ensures c.if-rise.true in
     (rising, λ _. distinct c.args.tests.now rising)
 
-pub invariant_of-result-2 : goal.invariant_of-result-2
-invariant_of-result-2 c =
+pub returns : goal.returns
+returns c =
     let tests = names c.args.tests.now in
     let by_name = c.in_ok-by_name.by_name.items in
     let are = c.in_ok-by_name.ensures in (
