@@ -15,7 +15,7 @@ use Rattle.nextest_config_elements_identifiers.specs.declared.source_kind.Config
 use Rattle.nextest_config_elements_toml.specs.Reading.{Reading, ◌>>=◌, under}
 use Rattle.nextest_config_elements_versions.specs.declared.feature.FeatureSet.{FeatureSet}
 use Rattle.nextest_config_resolution_inheritance.specs.Inheritance.{Name}
-use Rattle.nextest_config_resolution_load.specs.Checks.{as_setup, document_checks, document_of, file_checks, file_of, file_over, members_of, file_with_setup, outcome_checks, tree_of_files, source_checks}
+use Rattle.nextest_config_resolution_load.specs.Checks.{as_setup, document_checks, document_of, file_checks, file_of, scripts_over, members_of, file_with_setup, outcome_checks, tree_of_files, source_checks}
 use Rattle.nextest_config_resolution_load.specs.File.{file_in}
 use Rattle.nextest_config_resolution_load.specs.Load.{IsFilterBy, IsKept, IsSpecBy}
 use Rattle.nextest_config_resolution_load.specs.declared.file_config.FileConfig.{FileConfig}
@@ -160,10 +160,10 @@ profile_key_of_moved given file = get_merge (codes "profile") (as_setup given) f
 
 pub moved_agree : (names : List Name) (one other : Members) → AgreeBut names one other → AgreeBut names (file_with_setup one) (file_with_setup other)
 moved_agree names one other agree =
-    subst (λ (found : Option Data). AgreeBut names (file_with_setup one) (file_over (option_map as_setup found) other)) (sym (agree.elsewhere (codes "script") (apart (codes "script") (codes "profile") refl)))
+    subst (λ (found : Option Data). AgreeBut names (file_with_setup one) (scripts_over (option_map as_setup found) other)) (sym (agree.elsewhere (codes "script") (apart (codes "script") (codes "profile") refl)))
     (by_scripts (get_member (codes "script") one))
   where
-    by_scripts : (found : Option Data) → AgreeBut names (file_over (option_map as_setup found) one) (file_over (option_map as_setup found) other)
+    by_scripts : (found : Option Data) → AgreeBut names (scripts_over (option_map as_setup found) one) (scripts_over (option_map as_setup found) other)
     by_scripts None = agree
     by_scripts (Some given) = record {
       elsewhere = λ key differs.

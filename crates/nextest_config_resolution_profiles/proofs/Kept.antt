@@ -9,7 +9,7 @@ use Rattle.toml.specs.Parse.{parse_document}
 use Rattle.nextest_config_elements_identifiers.specs.declared.source_kind.ConfigSourceKind.{ConfigSourceKind}
 use Rattle.nextest_config_elements_toml.specs.Reading.{Reading}
 use Rattle.nextest_config_resolution_inheritance.specs.Inheritance.{names}
-use Rattle.nextest_config_resolution_load.specs.Checks.{MergedConfig, as_setup, config_in, document_checks, document_of, file_checks, file_of, file_over, members_of, merged_in, file_with_setup, outcome_checks, parents_of, tree_of_files, source_checks}
+use Rattle.nextest_config_resolution_load.specs.Checks.{MergedConfig, as_setup, config_in, document_checks, document_of, file_checks, file_of, scripts_over, members_of, merged_in, file_with_setup, outcome_checks, parents_of, tree_of_files, source_checks}
 use Rattle.nextest_config_resolution_load.specs.File.{file_in}
 use Rattle.nextest_config_resolution_load.specs.Load.{IsFilterBy, IsKept, IsLoadedAs, IsSpecBy, merged_of}
 use Rattle.nextest_config_resolution_load.specs.declared.file_config.FileConfig.{FileConfig}
@@ -81,7 +81,7 @@ files_have Is IsSpec features (source ∷ more) kept =
 -- a file whose setup scripts are moved has the same profiles and the same store
 moved_at : (key : List ℕ) (file : Members) → ((given : Data) → get_member key (as_setup given) ≡ None) → get_member key (file_with_setup file) ≡ get_member key file
 moved_at key file none = by_scripts (get_member (codes "script") file) where
-  by_scripts : (found : Option Data) → get_member key (file_over (option_map as_setup found) file) ≡ get_member key file
+  by_scripts : (found : Option Data) → get_member key (scripts_over (option_map as_setup found) file) ≡ get_member key file
   by_scripts None = refl
   by_scripts (Some given) = get_merge key (as_setup given) file ∙ ap (λ (it : Option Data). joint it (get_member key file)) (none given)
 
