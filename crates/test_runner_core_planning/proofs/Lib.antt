@@ -16,3 +16,4 @@ pub mod DefaultTwice
 pub mod Finite
 pub mod TreesDecided
 pub mod Decided
+mod Turns

@@ -1,16 +1,13 @@
--- The settings that are shared by rows, and the places of names.
-use Rattle.std.proofs.Common.{◌≡◌, ℕ, ◌+◌, ◌<◌, ◌≤◌, Bool, true, false, cond, List, [], ◌∷◌, ◌++◌, Option, Some, IfSome, Result, Ok, Err, MatchResult, IfOk, nat_cmp, length, map, get_or, slice_get, refl, sym, ap, ◌∙◌, subst, zero-add, append_assoc}
+-- The settings that are shared by rows, and the tests that have them.
+use Rattle.std.proofs.Common.{◌≡◌, ℕ, zero, suc, ◌+◌, ◌≤◌, Bool, true, false, cond, List, [], ◌∷◌, ◌++◌, Option, Some, IfSome, Result, Ok, Err, MatchResult, IfOk, nat_cmp, length, map, slice_get, refl, sym, ap, ◌∙◌, subst, arith}
 use Rattle.std.specs.BTreeMap.{BTreeMap, Updates, get, is_at}
-use Rattle.std.specs.List.{enumerate_from}
 use Rattle.std.proofs.lemmas.Grind.{flat_map-append}
-use Rattle.std.proofs.lemmas.List.{append-nil, map-append, map_push}
+use Rattle.std.proofs.lemmas.List.{append-nil, map-append}
 use Rattle.std.proofs.lemmas.Map.Lookups.{exact_unsigned}
 use Rattle.std.proofs.lemmas.Slice.Eq.{slice_eq-Decides}
 use Rattle.std.specs.Bool.{beq}
 use Rattle.std.specs.Cmp.{Equal-is, booleans_Decides}
 use Rattle.std.specs.Cmp.Lexicographic.{pointwise}
-use Rattle.std.proofs.lemmas.List.FromFn.{get_or-enumerate_from, length-enumerate_from}
-use Rattle.std.proofs.lemmas.Option.{slice_get_read}
 use Rattle.nextest_config_elements_choices.specs.declared.run_mode.NextestRunMode.{NextestRunMode}
 use Rattle.nextest_config_resolution_profiles.specs.Evaluatable.{Evaluatable}
 use Rattle.nextest_config_resolution_profiles.specs.HeldRules.{AreHeldColumns, Columns, held_row, row_number, rule_count}
@@ -24,21 +21,11 @@ use Rattle.test_runner_core_listing.specs.declared.selection.SelectedTests.{Sele
 use Rattle.test_runner_core_plan.specs.declared.plan.PlanTest.{PlanTest}
 use Rattle.test_runner_core_plan.specs.declared.plan_settings.PlanSettings.{PlanSettings}
 use Rattle.test_runner_core_planning.specs.Plan.{with_settings}
+use Rattle.test_runner_core_planning.specs.Settled.{settled_test, tests_of_all, tests_of_binary}
 use Rattle.test_runner_core_planning.specs.Tests.{AreShared, HasForRow, IsShared}
 use Rattle.test_runner_core_planning.specs.declared.settled_tests.RowSettings.{RowSettings}
 use Rattle.test_runner_core_platforms.specs.declared.platform_spec.PlatformSpec.{PlatformSpec}
 use Rattle.test_runner_core_workspace.specs.declared.record.Binary.{Binary}
-
--- ---- a name with its place
-
-pub placed : (names : List (List ℕ)) (index : ℕ) (it : ℕ × List ℕ) → index < length (enumerate_from 0 names) → it ≡ get_or (enumerate_from 0 names) index it
-    → slice_get names it.0 ≡ Some it.1
-placed names index it within is =
-    let inside : index < length names = subst (λ (n : ℕ). index < n) (length-enumerate_from 0 names) within in
-    let one : it ≡ (0 + index, get_or names index it.1) = is ∙ get_or-enumerate_from 0 names index it inside in
-    let place : it.0 ≡ index = ap (λ (p : ℕ × List ℕ). p.0) one ∙ zero-add index in
-    subst (λ (n : ℕ). slice_get names n ≡ Some it.1) (sym place)
-    (slice_get_read names (length names) index it.1 refl inside (ap (λ (p : ℕ × List ℕ). p.1) one))
 
 -- ---- what is shared
 
@@ -86,32 +73,33 @@ held_names OnTest profile binary names others held same are = subst (λ (them : 
 pub tests_more : (selected : List SelectedTests) (it : SelectedTests) → tests_in (selected ++ it ∷ []) ≡ tests_in selected ++ tests_of_one it
 tests_more selected it = flat_map-append tests_of_one selected (it ∷ []) ∙ ap (λ (last : List Test). tests_in selected ++ last) (append-nil (tests_of_one it))
 
-pub settled_more : (of_test : Test → PlanSettings) (selected : List SelectedTests) (it : SelectedTests) (before after : List PlanTest) → before ≡ map (with_settings of_test) (tests_in selected)
-    → after ≡ before ++ map (with_settings of_test) (tests_of_one it) → after ≡ map (with_settings of_test) (tests_in (selected ++ it ∷ []))
-settled_more of_test selected it before after so_far adds =
-    adds
+pub settled_more : (of_test : Test → PlanSettings) (selected : List SelectedTests) (it : SelectedTests) (before after : List (List PlanTest)) (tests : List PlanTest)
+    → tests_of_all before ≡ map (with_settings of_test) (tests_in selected) → after ≡ before ++ tests ∷ [] → tests ≡ map (with_settings of_test) (tests_of_one it)
+    → tests_of_all after ≡ map (with_settings of_test) (tests_in (selected ++ it ∷ []))
+settled_more of_test selected it before after tests so_far adds told =
+    ap tests_of_all adds
+    ∙ flat_map-append (λ (them : List PlanTest). them) before (tests ∷ [])
+    ∙ ap (λ (last : List PlanTest). tests_of_all before ++ last) (append-nil tests ∙ told)
     ∙ ap (λ (front : List PlanTest). front ++ map (with_settings of_test) (tests_of_one it)) so_far
     ∙ sym (map-append (with_settings of_test) (tests_in selected) (tests_of_one it))
     ∙ sym (ap (map (with_settings of_test)) (tests_more selected it))
 
 -- ---- tests with their settings
 
-abbrev pub at_place : (Test → PlanSettings) → Binary → ℕ × List ℕ → PlanTest
-at_place of_test binary one = with_settings of_test (seen_test binary one.1)
+-- what holds of each place of a list holds with one more behind it
+pub each_push : {X : Type 0} (P : ℕ → X → Type 0) (xs : List X) (x : X) → ((place : ℕ) → IfSome (slice_get xs place) (P place)) → P (length xs) x → (place : ℕ) → IfSome (slice_get (xs ++ x ∷ []) place) (P place)
+each_push P [] x all one zero = one
+each_push P [] x all one (suc place) = tt
+each_push P (y ∷ xs) x all one zero = all 0
+each_push P (y ∷ xs) x all one (suc place) = each_push (λ n. P (suc n)) xs x (λ n. all (suc n)) one place
 
--- one more test
-pub test_more : (of_test : Test → PlanSettings) (binary : Binary) (settings : PlanSettings) (one : ℕ × List ℕ) (start before after : List PlanTest) (yielded : List (ℕ × List ℕ))
-    → settings ≡ of_test (seen_test binary one.1) → before ≡ start ++ map (at_place of_test binary) yielded
-    → after ≡ before ++ with_settings (λ (_ : Test). settings) (seen_test binary one.1) ∷ [] → after ≡ start ++ map (at_place of_test binary) (yielded ++ one ∷ [])
-test_more of_test binary settings one start before after yielded same so_far adds =
-    adds
-    ∙ ap (λ (it : PlanSettings). before ++ with_settings (λ (_ : Test). it) (seen_test binary one.1) ∷ []) same
-    ∙ ap (λ (tests : List PlanTest). tests ++ at_place of_test binary one ∷ []) so_far
-    ∙ append_assoc start (map (at_place of_test binary) yielded) (at_place of_test binary one ∷ [])
-    ∙ ap (λ (tests : List PlanTest). start ++ tests) (sym (map_push (at_place of_test binary) yielded one))
-
--- all tests
-pub all_settled : (of_test : Test → PlanSettings) (binary : Binary) (n : ℕ) (names : List (List ℕ))
-    → map (at_place of_test binary) (enumerate_from n names) ≡ map (with_settings of_test) (map (seen_test binary) names)
-all_settled of_test binary n [] = refl
-all_settled of_test binary n (name ∷ names) = ap (λ (tests : List PlanTest). with_settings of_test (seen_test binary name) ∷ tests) (all_settled of_test binary (n + 1) names)
+-- the tests of a binary, where each has its settings
+pub settled_names : (of_test : Test → PlanSettings) (binary : Binary) (names : List (List ℕ)) (settings : List PlanSettings) → length settings ≡ length names
+    → ((place : ℕ) (name : List ℕ) (it : PlanSettings) → slice_get names place ≡ Some name → slice_get settings place ≡ Some it → it ≡ of_test (seen_test binary name))
+    → tests_of_binary binary.id names settings ≡ map (with_settings of_test) (map (seen_test binary) names)
+settled_names of_test binary [] settings long each = refl
+settled_names of_test binary (name ∷ names) [] long each = cc
+settled_names of_test binary (name ∷ names) (it ∷ settings) long each =
+    ap (λ (given : PlanSettings). settled_test binary.id name given ∷ tests_of_binary binary.id names settings) (each 0 name it refl refl)
+    ∙ ap (λ (tests : List PlanTest). with_settings of_test (seen_test binary name) ∷ tests)
+    (settled_names of_test binary names settings (omega (arith, long)) (λ place. each (suc place)))

@@ -3,6 +3,7 @@ pub mod Filtering
 pub mod Checks
 pub mod Plan
 pub mod Tests
+pub mod Settled
 pub mod Inside
 pub mod Texts
 pub mod Laws

@@ -3,6 +3,7 @@
 #![tactic(auto)]
 
 mod build;
+mod by_priority;
 mod filtering;
 mod groups;
 pub mod laws;

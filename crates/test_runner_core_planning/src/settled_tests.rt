@@ -1,5 +1,6 @@
 // The selected tests with their settings, and the setup scripts that are enabled for them.
-ghost use Rattle.std.specs.Prelude.{◌≡◌, ◌+◌, [], ◌∷◌, ◌++◌, List, IfOk, IfSome, OnOk, length, map, true};
+ghost use Rattle.std.specs.Prelude.{◌≡◌, ◌+◌, ◌++◌, ℕ, List, IfOk, IfSome, OnOk, length, map, slice_get, true};
+ghost use Rattle.std.specs.List.Sorted.{IsPermutation};
 ghost use Rattle.nextest_config_elements_choices.specs.declared.run_mode.NextestRunMode.{NextestRunMode};
 ghost use Rattle.nextest_config_resolution_profiles.specs.Enabled.{AreNamesOf, HasEnabled, IsEnabled};
 ghost use Rattle.nextest_config_resolution_profiles.specs.Evaluatable.{Evaluatable};
@@ -8,7 +9,7 @@ ghost use Rattle.nextest_config_resolution_settings.specs.Nearest.{lent_layers};
 ghost use Rattle.nextest_filtering_compiling.specs.Filtersets.{HasOnTest};
 ghost use Rattle.nextest_filtering_compiling.specs.declared.filterset.Filterset.{Filterset};
 ghost use Rattle.nextest_filtering_filters.specs.Query.{Test};
-ghost use Rattle.test_runner_core_listing.specs.Answers.{query_of, seen_test};
+ghost use Rattle.test_runner_core_listing.specs.Answers.{query_of};
 ghost use Rattle.test_runner_core_listing.specs.Selected.{tests_in, tests_of_one};
 ghost use Rattle.test_runner_core_plan.specs.declared.plan_settings.PlanSettings.{PlanSettings};
 ghost use Rattle.test_runner_core_planning.specs.Plan.{with_settings};
@@ -16,10 +17,12 @@ ghost use Rattle.test_runner_core_platforms.specs.declared.platform_spec.Platfor
 ghost use Rattle.test_runner_core_planning.specs.Tests.{AreShared, HasForEach, HasForRow};
 ghost use Rattle.test_runner_core_workspace.specs.declared.record.Binary.{Binary};
 
+use crate::by_priority::{SettledBinary, tests_by_priority};
 use nextest_config_elements_choices::NextestRunMode;
+use nextest_config_elements_values::TestPriority;
 use nextest_config_resolution_profiles::{EnabledNames, EvaluatableProfile, HeldRules};
 use nextest_filtering_compiling::Filterset;
-use nextest_run_events_results::{OwnedTestInstanceId, RustBinaryId};
+use nextest_run_events_results::RustBinaryId;
 use nextest_text::{Listing, Text};
 use std::alloc::{AllocError, Global};
 use std::collections::BTreeMap;
@@ -56,8 +59,9 @@ impl Drop for RowSettings {
 // Settings that tests share, by a number of the row.
 type SettingsByRow = BTreeMap<u64, RowSettings>;
 
-// The selected tests, each with the settings that a profile has for it, and the setup scripts that
-// the profile enables for them. Tests on which the same rules hold share their settings.
+// The selected tests, each with the settings that a profile has for it, in any order, and the setup
+// scripts that the profile enables for them. Tests on which the same rules hold share their
+// settings.
 pub(crate) fn settled_tests(
     alloc: Global,
     profile: &EvaluatableProfile<'_, Filterset, PlatformSpec>,
@@ -65,54 +69,48 @@ pub(crate) fn settled_tests(
     selected: Vec<SelectedTests<'_>>,
 ) -> Result<SettledTests, AllocError>
     ensures tests { (of_test : Test → PlanSettings) → HasForEach profile.now mode of_test
-        → IfOk result (λ it. it.tests.items
-        ≡ map (with_settings of_test) (tests_in selected.entry.items)) }
+        → IfOk result (λ it. IsPermutation
+        (map (with_settings of_test) (tests_in selected.entry.items)) it.tests.items) }
     ensures scripts { IfOk result (λ it.
         AreNamesOf (IsEnabled HasOnTest profile.now (tests_in selected.entry.items)) it.scripts) }
 {
     let mut shared = BTreeMap::new(alloc);
-    let mut tests = Vec::with_capacity(alloc, count_of(selected.as_slice()))?;
+    let mut binaries = Vec::with_capacity(alloc, selected.len())?;
     let mut names = EnabledNames::new(alloc);
     for of_binary in selected {
-        push_tests(
-            alloc,
-            profile,
-            mode,
-            of_binary,
-            &mut shared,
-            &mut tests,
-            &mut names,
-        )?;
+        binaries.push(settled_binary(alloc, profile, mode, of_binary, &mut shared, &mut names)?)?;
     }
+    let priorities = priorities_of(alloc, &shared)?;
+    let tests = tests_by_priority(alloc, binaries, priorities.as_slice())?;
     let scripts = names.listed(alloc)?;
     Ok(SettledTests { tests, scripts })
 }
 
-// How many tests these are, for which room is made at once.
-fn count_of(selected: &[SelectedTests<'_>]) -> usize {
-    let mut count: usize = 0;
-    for of_binary in selected {
-        count = count.saturating_add(of_binary.names.len());
+// The priorities of some settings, in their order. Nothing is promised of them.
+fn priorities_of(alloc: Global, shared: &SettingsByRow) -> Result<Vec<TestPriority>, AllocError> {
+    let mut priorities = Vec::with_capacity(alloc, shared.len())?;
+    for of_row in shared.values() {
+        priorities.push(of_row.settings.priority)?;
     }
-    count
+    priorities.sort_unstable();
+    priorities.dedup();
+    Ok(priorities)
 }
 
-// Adds the selected tests of a binary, the names of the setup scripts that are enabled for them,
-// and to what is shared the settings of each row of rules that is new there.
-fn push_tests(
+// The selected tests of a binary with their settings. Adds the names of the setup scripts that are
+// enabled for them, and to what is shared the settings of each row of rules that is new there.
+fn settled_binary(
     alloc: Global,
     profile: &EvaluatableProfile<'_, Filterset, PlatformSpec>,
     mode: NextestRunMode,
     of_binary: SelectedTests<'_>,
     shared: &mut SettingsByRow,
-    tests: &mut Vec<PlanTest>,
     scripts: &mut EnabledNames,
-) -> Result<(), AllocError>
+) -> Result<SettledBinary, AllocError>
     requires { AreShared profile.now mode shared.old }
     ensures shared { OnOk result (AreShared profile.now mode shared.new) }
     ensures tests { (of_test : Test → PlanSettings) → HasForEach profile.now mode of_test
-        → OnOk result (tests.new.items
-        ≡ tests.old.items ++ map (with_settings of_test) (tests_of_one of_binary.entry)) }
+        → IfOk result (λ tests. tests ≡ map (with_settings of_test) (tests_of_one of_binary.entry)) }
     ensures scripts { (before : List Test) → HasEnabled HasOnTest profile.now before scripts.old
         → OnOk result
         (HasEnabled HasOnTest profile.now (before ++ tests_of_one of_binary.entry) scripts.new) }
@@ -120,14 +118,38 @@ fn push_tests(
     let SelectedTests { binary, names } = of_binary;
     let held = held_rules_of(alloc, profile, binary, names.as_slice())?;
     profile.add_scripts(alloc, &held, names.len(), scripts)?;
-    let numbers = held.numbers(alloc, names.len())?;
-    let id = RustBinaryId::new(alloc, binary.id.as_str())?;
-    for (place, name) in Vec::from(names).into_iter().enumerate() {
+    let settings = settings_of_each(alloc, profile, mode, &held, names.len(), shared)?;
+    Ok(SettledBinary {
+        id: RustBinaryId::new(alloc, binary.id.as_str())?,
+        names,
+        settings,
+    })
+}
+
+// The settings of so many tests of a binary, on which these rules hold.
+fn settings_of_each(
+    alloc: Global,
+    profile: &EvaluatableProfile<'_, Filterset, PlatformSpec>,
+    mode: NextestRunMode,
+    held: &HeldRules,
+    count: usize,
+    shared: &mut SettingsByRow,
+) -> Result<Vec<SharedSettings>, AllocError>
+    requires shared { AreShared profile.now mode shared.old }
+    requires counted { rule_count held.now
+        ≡ length profile.now.rules + length profile.now.script_rules }
+    ensures shared { OnOk result (AreShared profile.now mode shared.new) }
+    ensures count { IfOk result (λ settings. length settings.items ≡ count) }
+    ensures settings { IfOk result (λ settings. (place : ℕ) → IfSome
+        (slice_get settings.items place) (HasForRow profile.now mode (held_row place held.now))) }
+{
+    let numbers = held.numbers(alloc, count)?;
+    let mut each = Vec::with_capacity(alloc, count)?;
+    for place in 0..count {
         let number = numbers[place];
-        let settings = settings_at(alloc, profile, mode, &held, place, number, shared)?;
-        push_test(&id, name, settings, tests)?;
+        each.push(settings_at(alloc, profile, mode, held, place, number, shared)?)?;
     }
-    Ok(())
+    Ok(each)
 }
 
 // Which rules of a profile hold on the tests of a binary with these names, found at once for all of
@@ -271,27 +293,4 @@ fn settings_by_row(
         Ok(settings) => SharedSettings::new(alloc, owned_settings(alloc, &settings)?),
         Err(error) => Err(error),
     }
-}
-
-// Adds a test of a binary of this id, with these settings.
-fn push_test(
-    id: &RustBinaryId,
-    name: Text,
-    settings: SharedSettings,
-    tests: &mut Vec<PlanTest>,
-) -> Result<(), AllocError>
-    ensures { (binary : Binary) → id.now ≡ binary.id → OnOk result (tests.new.items
-        ≡ tests.old.items ++ with_settings (λ _. settings) (seen_test binary name) ∷ []) }
-{
-    let tries = settings.retries.count().saturating_add(1);
-    let instance = OwnedTestInstanceId {
-        binary_id: id.clone()?,
-        test_name: name,
-    };
-    tests.push(PlanTest {
-        instance,
-        settings,
-        tries,
-    })?;
-    Ok(())
 }

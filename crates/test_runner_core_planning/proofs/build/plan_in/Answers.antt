@@ -1,6 +1,7 @@
 use Rattle.std.proofs.Common.{◌≡◌, ap, sym, subst, ◌∙◌, List, Err, true, false}
 use Rattle.std.specs.List.{list_any}
 use Rattle.std.specs.List.Sorted.{IsPermutation}
+use Rattle.std.proofs.lemmas.List.Sorted.{IsPermutation-trans, list_any-IsPermutation}
 use Rattle.std.proofs.lemmas.Result.{err_from_is_err_and}
 use Rattle.nextest_config_resolution_profiles.specs.Enabled.{AreNamesOf}
 use Rattle.nextest_config_resolution_profiles.proofs.Enabling.{same_names}
@@ -84,7 +85,8 @@ returns-then-has_too_many-clause-builds g c =
     let tests = c.in_ok-tests.ensures.tests choice.of_test (has_each inputs wanted.run has.chooses) in
     let many : has_too_many choice.of_test (tests_in selection.tests.items) ≡ true =
     sym (any_overflows choice.of_test (tests_in selection.tests.items))
-    ∙ ap (λ (it : List PlanTest). list_any (λ (test : PlanTest). overflows test.settings) it) (sym (c.as_slice.ensures.value ∙ tests))
+    ∙ list_any-IsPermutation (λ (test : PlanTest). overflows test.settings) _ c.in_ok-tests.field-0.tests.items tests
+    ∙ ap (list_any (λ (test : PlanTest). overflows test.settings)) (sym c.as_slice.ensures.value)
     ∙ sym c.has_too_many.ensures ∙ c.if-has_too_many.true in
     refused_tries (g.L.Lister.answer c.args.lister.now) inputs
     (record { choice = choice; answers = made.0; found = record { tests = tests_in selection.tests.items; skipped = selection.skipped } }) has.passed
@@ -111,7 +113,8 @@ returns-clause-builds g c =
     let tests = c.in_ok-tests.ensures.tests choice.of_test (has_each inputs wanted.run has.chooses) in
     let few : has_too_many choice.of_test (tests_in selection.tests.items) ≡ false =
     sym (any_overflows choice.of_test (tests_in selection.tests.items))
-    ∙ ap (λ (it : List PlanTest). list_any (λ (test : PlanTest). overflows test.settings) it) (sym (c.as_slice.ensures.value ∙ tests))
+    ∙ list_any-IsPermutation (λ (test : PlanTest). overflows test.settings) _ c.in_ok-tests.field-0.tests.items tests
+    ∙ ap (list_any (λ (test : PlanTest). overflows test.settings)) (sym c.as_slice.ensures.value)
     ∙ sym c.has_too_many.ensures ∙ c.if-has_too_many.false in
     let plan = c.plan_of.ensures in (
       record { choice = choice; answers = made.0; found = record { tests = tests_in selection.tests.items; skipped = selection.skipped } },
@@ -119,7 +122,8 @@ returns-clause-builds g c =
           (record { choice = choice; answers = made.0; found = record { tests = tests_in selection.tests.items; skipped = selection.skipped } }) has.passed
           (record { answers = made.1; found = selects.0 }) few,
       record {
-        tests = subst (λ (it : List PlanTest). IsPermutation it c.plan_of.result.tests) (tests ∙ tries_fit choice.of_test (tests_in selection.tests.items) few) plan.tests;
+        tests = IsPermutation-trans _ c.in_ok-tests.field-0.tests.items c.plan_of.result.tests
+            (subst (λ (it : List PlanTest). IsPermutation it c.in_ok-tests.field-0.tests.items) (tries_fit choice.of_test (tests_in selection.tests.items) few) tests) plan.tests;
         order = plan.order;
         skipped = plan.skipped;
         listed = plan.listed ∙ selects.1;
