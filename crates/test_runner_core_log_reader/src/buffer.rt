@@ -11,9 +11,13 @@ use test_runner_core_streams::LogReader;
 // How long the buffer is at first.
 const CHUNK: usize = 65_536;
 
+// By how much a long buffer is made longer at once: what is added is written before it is read into,
+// and takes memory from then on.
+const STEP: usize = 1_048_576;
+
 // How long the lines of a log make the buffer at most: what waits is at most a line, and the buffer
-// is made twice as long only where that fills half of it. Only the line before a log makes it
-// longer.
+// is made longer, by as much as it has at most, only where that fills half of it. Only the line
+// before a log makes it longer.
 pub(super) const LONGEST: usize = 4_194_304;
 
 // Makes room behind the bytes from `start` to `end`, if there is none, and answers where they begin
@@ -51,7 +55,7 @@ pub(super) fn shorten(buffer: &mut Vec<u8>, start: usize, end: usize)
 
 // Makes room behind the bytes from `start` to the end of a full buffer: at the front where they fit
 // before themselves, so that no byte is moved more often than others are read; else the buffer is
-// made twice as long.
+// made longer, twice as long where it is short.
 fn make_room(buffer: &mut Vec<u8>, start: usize) -> Result<usize, AllocError>
     requires { start ≤ vec_len buffer.old }
     ensures bytes { IfOk result (λ begin. slice_range buffer.new.items begin (begin
@@ -67,7 +71,7 @@ fn make_room(buffer: &mut Vec<u8>, start: usize) -> Result<usize, AllocError>
         front[..waiting].copy_from_slice(back);
         return Ok(0);
     }
-    let longer = CHUNK.max(length * 2);
+    let longer = length + length.clamp(CHUNK, STEP);
     buffer.resize(longer, 0)?;
     Ok(start)
 }
