@@ -25,7 +25,7 @@ use nextest_filtering_compiling::Filterset;
 use nextest_run_events_results::RustBinaryId;
 use nextest_text::{Listing, Text};
 use std::alloc::{AllocError, Global};
-use std::collections::BTreeMap;
+use std::collections::HashMap;
 use test_runner_core_listing::{SelectedTests, query_of};
 use test_runner_core_plan::{PlanTest, SharedSettings};
 use test_runner_core_platforms::PlatformSpec;
@@ -57,7 +57,7 @@ impl Drop for RowSettings {
 }
 
 // Settings that tests share, by a number of the row.
-type SettingsByRow = BTreeMap<u64, RowSettings>;
+type SettingsByRow = HashMap<u64, RowSettings>;
 
 // The selected tests, each with the settings that a profile has for it, in any order, and the setup
 // scripts that the profile enables for them. Tests on which the same rules hold share their
@@ -74,7 +74,7 @@ pub(crate) fn settled_tests(
     ensures scripts { IfOk result (λ it.
         AreNamesOf (IsEnabled HasOnTest profile.now (tests_in selected.entry.items)) it.scripts) }
 {
-    let mut shared = BTreeMap::new(alloc);
+    let mut shared = HashMap::new(alloc);
     let mut binaries = Vec::with_capacity(alloc, selected.len())?;
     let mut names = EnabledNames::new(alloc);
     for of_binary in selected {
