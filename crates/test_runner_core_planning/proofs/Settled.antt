@@ -1,12 +1,12 @@
 -- The settings that are shared by rows, and the tests that have them.
-use Rattle.std.proofs.Common.{◌≡◌, ℕ, zero, suc, ◌+◌, ◌≤◌, Bool, true, false, cond, List, [], ◌∷◌, ◌++◌, Option, Some, IfSome, Result, Ok, Err, MatchResult, IfOk, nat_eq, length, map, slice_get, refl, sym, ap, ◌∙◌, subst, arith}
-use Rattle.std.specs.HashMap.{HashMap, Updates, get}
-use Rattle.std.proofs.lemmas.Bool.{eqb-true}
+use Rattle.std.proofs.Common.{◌≡◌, ℕ, zero, suc, ◌+◌, ◌≤◌, Bool, true, false, cond, List, [], ◌∷◌, ◌++◌, Option, Some, IfSome, Result, Ok, Err, MatchResult, IfOk, nat_cmp, length, map, slice_get, refl, sym, ap, ◌∙◌, subst, arith}
+use Rattle.std.specs.BTreeMap.{BTreeMap, Updates, get, is_at}
 use Rattle.std.proofs.lemmas.Grind.{flat_map-append}
 use Rattle.std.proofs.lemmas.List.{append-nil, map-append}
+use Rattle.std.proofs.lemmas.Map.Lookups.{exact_unsigned}
 use Rattle.std.proofs.lemmas.Slice.Eq.{slice_eq-Decides}
 use Rattle.std.specs.Bool.{beq}
-use Rattle.std.specs.Cmp.{booleans_Decides}
+use Rattle.std.specs.Cmp.{Equal-is, booleans_Decides}
 use Rattle.std.specs.Cmp.Lexicographic.{pointwise}
 use Rattle.nextest_config_elements_choices.specs.declared.run_mode.NextestRunMode.{NextestRunMode}
 use Rattle.nextest_config_resolution_profiles.specs.Evaluatable.{Evaluatable}
@@ -29,15 +29,15 @@ use Rattle.test_runner_core_workspace.specs.declared.record.Binary.{Binary}
 
 -- ---- what is shared
 
-pub shared_found : {S : Type 0} (profile : Evaluatable Filterset PlatformSpec) (mode : NextestRunMode) (shared : HashMap ℕ RowSettings S) (number : ℕ) (it : RowSettings)
-    → AreShared profile mode shared → get nat_eq shared number ≡ Some it → IsShared profile mode number it
+pub shared_found : (profile : Evaluatable Filterset PlatformSpec) (mode : NextestRunMode) (shared : BTreeMap ℕ RowSettings) (number : ℕ) (it : RowSettings)
+    → AreShared profile mode shared → get nat_cmp shared number ≡ Some it → IsShared profile mode number it
 shared_found profile mode shared number it are is = subst (λ (found : Option RowSettings). IfSome found (IsShared profile mode number)) is (are number)
 
-pub shared_more : {S : Type 0} (profile : Evaluatable Filterset PlatformSpec) (mode : NextestRunMode) (before after : HashMap ℕ RowSettings S) (number : ℕ) (row : List Bool) (settings : PlanSettings) (it : RowSettings)
+pub shared_more : (profile : Evaluatable Filterset PlatformSpec) (mode : NextestRunMode) (before after : BTreeMap ℕ RowSettings) (number : ℕ) (row : List Bool) (settings : PlanSettings) (it : RowSettings)
     → AreShared profile mode before → length row ≡ length profile.rules + length profile.script_rules → number ≡ row_number row → HasForRow profile mode row settings → it.row.items ≡ row → it.settings ≡ settings
-    → Updates nat_eq before after number (Some it) → AreShared profile mode after
+    → Updates nat_cmp before after number (Some it) → AreShared profile mode after
 shared_more profile mode before after number row settings it are counted numbered has under same updates key =
-    subst (λ (found : Option RowSettings). IfSome found (IsShared profile mode key)) (sym (updates.0 key)) (by_test (nat_eq number key) refl)
+    subst (λ (found : Option RowSettings). IfSome found (IsShared profile mode key)) (sym (updates.0 key)) (by_test (is_at (nat_cmp number) key) refl)
   where
     own : IsShared profile mode number it
     own = record {
@@ -46,8 +46,8 @@ shared_more profile mode before after number row settings it are counted numbere
       numbered = numbered ∙ ap row_number (sym under);
     }
 
-    by_test : (here : Bool) → nat_eq number key ≡ here → IfSome (cond here (Some it) (get nat_eq before key)) (IsShared profile mode key)
-    by_test true is = subst (λ (n : ℕ). IsShared profile mode n it) (eqb-true number key is) own
+    by_test : (here : Bool) → is_at (nat_cmp number) key ≡ here → IfSome (cond here (Some it) (get nat_cmp before key)) (IsShared profile mode key)
+    by_test true is = subst (λ (n : ℕ). IsShared profile mode n it) (exact_unsigned number key ((Equal-is (nat_cmp number key)).0 is)) own
     by_test false is = are key
 
 -- rows that are compared are one
@@ -92,6 +92,13 @@ each_push P [] x all one zero = one
 each_push P [] x all one (suc place) = tt
 each_push P (y ∷ xs) x all one zero = all 0
 each_push P (y ∷ xs) x all one (suc place) = each_push (λ n. P (suc n)) xs x (λ n. all (suc n)) one place
+
+-- what an earlier place has is right for one with the same row
+pub again : (Has : List Bool → PlanSettings → Type 0) (held : Columns) (each lent : List PlanSettings) (before place : ℕ) (it : PlanSettings) → lent ≡ each
+    → ((k : ℕ) → IfSome (slice_get each k) (Has (held_row k held))) → (slice_get lent before ≡ Some it) × (held_row before held ≡ held_row place held) → Has (held_row place held) it
+again Has held each lent before place it same all both =
+    subst (λ (row : List Bool). Has row it) both.1
+    (subst (λ (found : Option PlanSettings). IfSome found (Has (held_row before held))) (subst (λ (them : List PlanSettings). slice_get them before ≡ Some it) same both.0) (all before))
 
 -- the tests of a binary, where each has its settings
 pub settled_names : (of_test : Test → PlanSettings) (binary : Binary) (names : List (List ℕ)) (settings : List PlanSettings) → length settings ≡ length names

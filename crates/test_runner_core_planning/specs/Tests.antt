@@ -1,6 +1,7 @@
 -- The settings that a profile has for tests, as a plan keeps them.
-use Rattle.std.specs.Prelude.{◌≡◌, ℕ, ◌+◌, Bool, List, IfSome, length, nat_eq}
-use Rattle.std.specs.HashMap.{HashMap, get}
+use Rattle.std.specs.Prelude.{◌≡◌, ℕ, ◌+◌, Bool, List, IfSome, length}
+use Rattle.std.specs.Ordering.{nat_cmp}
+use Rattle.std.specs.BTreeMap.{BTreeMap, get}
 use Rattle.nextest_config_elements_choices.specs.declared.run_mode.NextestRunMode.{NextestRunMode}
 use Rattle.nextest_config_resolution_profiles.specs.Evaluatable.{Evaluatable}
 use Rattle.nextest_config_resolution_profiles.specs.Held.{AreSettingsFor}
@@ -33,5 +34,5 @@ pub record IsShared (profile : Evaluatable Filterset PlatformSpec) (mode : Nexte
   pub counted : length it.row.items ≡ length profile.rules + length profile.script_rules
   pub numbered : number ≡ row_number it.row.items
 
-abbrev pub AreShared : {S : Type 0} → Evaluatable Filterset PlatformSpec → NextestRunMode → HashMap ℕ RowSettings S → Type 0
-AreShared profile mode shared = (number : ℕ) → IfSome (get nat_eq shared number) (IsShared profile mode number)
+abbrev pub AreShared : Evaluatable Filterset PlatformSpec → NextestRunMode → BTreeMap ℕ RowSettings → Type 0
+AreShared profile mode shared = (number : ℕ) → IfSome (get nat_cmp shared number) (IsShared profile mode number)
