@@ -5,6 +5,7 @@ ghost use Rattle.test_runner_core_workspace.specs.Ids.{lent_texts, has_text};
 ghost use Rattle.test_runner_core_workspace.specs.Workspace as refusing;
 
 use crate::record::{Binary, Link, Package};
+use memchr::memchr3;
 use std::alloc::{AllocError, Global};
 use std::collections::BTreeSet;
 
@@ -85,24 +86,12 @@ pub(crate) fn packages_are_known(known: &BTreeSet<&str>, binaries: &[Binary]) ->
         .all(|binary| known.contains(binary.package.as_str()))
 }
 
-// Whether a byte is a tab, a line feed or a carriage return.
-fn is_separator(byte: u8) -> bool
-    ensures { result ≡ (byte == 9 || byte == 10 || byte == 13) }
-{
-    byte == b'\t' || byte == b'\n' || byte == b'\r'
-}
-
 /// Whether a text contains a tab, a line feed or a carriage return, which divide what a log and a
 /// report have.
 pub fn has_separator(text: &str) -> bool
     ensures { result ≡ refusing.has_separator text.now }
 {
-    // All bytes are looked at: a loop that doesn't end at the first one goes over many at a time.
-    let mut is_found = false;
-    for byte in text.as_bytes() {
-        is_found |= is_separator(*byte);
-    }
-    is_found
+    memchr3(b'\t', b'\n', b'\r', text.as_bytes()).is_some()
 }
 
 // Whether an id is empty or contains a tab, a line feed or a carriage return.
