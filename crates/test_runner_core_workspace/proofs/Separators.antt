@@ -1,5 +1,5 @@
 -- Whether a byte stands in a text, where a search tells the first place of one.
-use Rattle.std.proofs.Common.{◌≡◌, ◌<◌, ℕ, Bool, true, false, List, length, get_or, Option, None, Some, is_some, sym, ap, ◌∙◌, inl, inr, arith}
+use Rattle.std.proofs.Common.{◌≡◌, ◌<◌, ℕ, Bool, false, List, length, get_or, Option, None, Some, is_some, sym, ap, ◌∙◌, inl, inr, arith}
 use Rattle.std.proofs.lemmas.Bool.{cases_Bool}
 use Rattle.std.proofs.lemmas.List.{get_or_default}
 use Rattle.std.proofs.lemmas.List.Folds.{list_any-from_Any, list_any_none}
@@ -15,4 +15,4 @@ found_any test text None nowhere = sym (list_any_none test text each)
           | inr apart ↦ apart
           | inl it ↦ absurd (nowhere k (omega arith) inside (ap test (get_or_default text k 0 d inside) ∙ it))
         ]
-found_any test text (Some k) first = sym (list_any-from_Any test text (get_or text k 0, k, first.0.high, get_or_default text k (get_or text k 0) 0 first.0.high, first.1))
+found_any test text (Some k) first = sym (list_any-from_Any test text (k, get_or text k 0, first.0.high, get_or_default text k (get_or text k 0) 0 first.0.high, first.1))
