@@ -13,7 +13,7 @@ use crate::fault::Fault;
 use crate::items::JsonItems;
 use crate::steps::PathStep;
 use crate::value::JsonValue;
-use nextest_text::{Listing, Text};
+use nextest_text::{Listing, Text, Texts};
 use std::alloc::Global;
 
 /// What has a form in the JSON of a `Whole`: it is a part of one, or one itself. A type may have
@@ -201,13 +201,13 @@ fn each<Whole, T: Form<Whole>>(alloc: Global, items: JsonItems<'_, '_>) -> Resul
     Ok(found)
 }
 
-/// The items, each a text, in their order; the texts share their memory. An `Err` tells of the
-/// first item that is no text, or that there was no memory.
-pub fn shared_texts(alloc: Global, items: JsonItems<'_, '_>) -> Result<Listing<Text>, Fault>
+/// The items, each a text, in their order and in one piece of memory. An `Err` tells of the first
+/// item that is no text, or that there was no memory.
+pub fn shared_texts(alloc: Global, items: JsonItems<'_, '_>) -> Result<Texts, Fault>
     ensures { Gives result (read.each read.text 0 (items_left items.entry)) }
 {
     let texts = lent_texts(alloc, items)?;
-    Ok(Listing::shared(alloc, texts.as_slice())?)
+    Ok(Texts::from_strs(alloc, texts.as_slice())?)
 }
 
 // The items, each a text, lent.

@@ -22,9 +22,8 @@ enum Source {
     Shared(Part),
 }
 
-/// Owned text, UTF-8 as a `String`. It has memory of its own, or shares it with the others of a
-/// list (`Listing::shared`) and with copies, which then take none. In a clause it is the list of
-/// its bytes.
+/// Owned text, UTF-8 as a `String`. It has memory of its own, or shares it with the `Texts` that it
+/// was made of and with copies, which then take none. In a clause it is the list of its bytes.
 pub struct Text {
     source: Source,
 }

@@ -1,5 +1,5 @@
 // The record of a workspace, as it comes in.
-use nextest_text::{Listing, Text};
+use nextest_text::{Listing, Text, Texts};
 
 /// A package.
 #[derive(Clone, Debug, PartialEq, Eq)]
@@ -61,7 +61,7 @@ pub enum BuildPlatform {
 #[derive(Clone, Debug, PartialEq, Eq)]
 pub enum BinaryTests {
     /// The names of its tests, in its order.
-    Names(Listing<Text>),
+    Names(Texts),
     /// Why it can't list them.
     Fault(Text),
 }

@@ -2,7 +2,7 @@ use Rattle.std.proofs.Common.{◌+◌, ◌++◌, drop, string_bytes, append_asso
 use Rattle.std.specs.List.{concat}
 use Rattle.nextest_text.specs.Parts.{lent_texts}
 use Rattle.nextest_text.proofs.Cut.{text_here}
-use Rattle.nextest_text.proofs.shared.joined.Goals as goal
+use Rattle.nextest_text.proofs.texts.joined.Goals as goal
 
 pub loop-text-preserved : goal.loop-text-preserved
 loop-text-preserved c =
