@@ -1,3 +1,3 @@
 pub mod Same
 pub mod Cut
-pub mod Cuts
+pub mod Filtered

@@ -1,13 +1,13 @@
 // Texts in one piece of memory.
-ghost use Rattle.std.specs.Prelude.{◌≡◌, ◌<◌, ◌+◌, ◌∷◌, ◌++◌, get_or, nat_eq, ℕ, List, Some, IfOk, length, string_bytes};
+ghost use Rattle.std.specs.Prelude.{◌≡◌, ◌<◌, ◌+◌, ◌++◌, [], nat_eq, get_or, ℕ, List, Some, IfOk, length, string_bytes};
 ghost use Rattle.std.specs.Arc.{arc_str_bytes};
 ghost use Rattle.std.specs.Cmp.{partial_equiv_from_equiv};
 ghost use Rattle.std.specs.Cmp.Lexicographic.{pointwise, nat_list_eq_equiv, lists_equiv, lists_per};
-ghost use Rattle.std.specs.List.{concat};
+ghost use Rattle.std.specs.List.{concat, items_where_true};
 ghost use Rattle.std.specs.Slice.{IsItemAt};
 ghost use Rattle.nextest_text.specs.Parts.{IsLeft, IsPart, lent_texts, part_of};
+ghost use Rattle.nextest_text.specs.Spans.{text_at, IsSpan};
 
-use crate::listing::Listing;
 use crate::part::Part;
 use crate::text::Text;
 use std::alloc::{AllocError, Global};
@@ -15,30 +15,37 @@ use std::fmt;
 use std::marker::Model;
 use std::sync::ArcStr;
 
-/// Texts in one piece of memory, one behind another, which each `Text` made of them shares. In a
-/// clause it is the list of the texts.
+// Where a text stands in another: from a place up to another.
+#[derive(Clone, Copy)]
+struct Span {
+    start: usize,
+    end: usize,
+}
+
+/// Texts in one piece of memory, which each `Text` made of them shares. In a clause it is the list
+/// of the texts.
 pub struct Texts {
     whole: ArcStr,
-    // Where each text ends.
-    ends: Vec<usize>,
+    spans: Vec<Span>,
 }
 
 impl Model for Texts {
-    ghost use Rattle.std.specs.Prelude.{List, ℕ};
+    ghost use Rattle.std.specs.Prelude.{List, ℕ, map};
     ghost use Rattle.std.specs.Arc.{arc_str_bytes};
-    ghost use Rattle.nextest_text.specs.Parts.{AreCuts, parts_of};
+    ghost use Rattle.std.specs.List.{All};
+    ghost use Rattle.nextest_text.specs.Spans.{text_at, IsSpan};
 
     ghost Value = { List (List ℕ) };
 
-    ghost view = { λ it. parts_of (arc_str_bytes it.whole) 0 it.ends.items };
+    ghost view = { λ it. map (text_at (arc_str_bytes it.whole)) it.spans.items };
 
-    ghost invariant = { λ it. AreCuts (arc_str_bytes it.whole) 0 it.ends.items };
+    ghost invariant = { λ it. All (IsSpan (arc_str_bytes it.whole)) it.spans.items };
 }
 
 // One call drops them, whoever holds them.
 impl Drop for Texts {
     fn drop(self) {
-        let Self { whole: _, ends: _ } = self;
+        let Self { whole: _, spans: _ } = self;
     }
 }
 
@@ -48,27 +55,28 @@ impl Texts {
         ensures { IfOk result (λ it. it ≡ lent_texts texts.now) }
     {
         let whole = ArcStr::from_string(joined(alloc, texts)?)?;
-        let mut ends = Vec::with_capacity(alloc, texts.len())?;
-        let mut end = 0;
+        let mut spans = Vec::with_capacity(alloc, texts.len())?;
+        let mut start = 0;
         for text in texts {
-            end = end_of_next(&whole, end, text);
-            ends.push(end)?;
+            let span = next_span(&whole, start, text);
+            spans.push(span)?;
+            start = span.end;
         }
-        Ok(Texts { whole, ends })
+        Ok(Texts { whole, spans })
     }
 
     /// How many texts there are.
     pub fn len(&self) -> usize
         ensures { result ≡ length self.now }
     {
-        self.ends.len()
+        self.spans.len()
     }
 
     /// Whether there are none.
     pub fn is_empty(&self) -> bool
         ensures { result ≡ nat_eq (length self.now) 0 }
     {
-        self.len() == 0
+        self.spans.is_empty()
     }
 
     /// The text at an index, lent; `None` where there are not so many.
@@ -87,45 +95,63 @@ impl Texts {
         requires { index < length self.now }
         ensures { IsItemAt self.now index (Some result) }
     {
-        let start = start_of(self.ends.as_slice(), index);
-        &self.whole.as_str()[start..self.ends[index]]
+        let span = self.spans[index];
+        &self.whole.as_str()[span.start..span.end]
     }
 
-    /// The texts, each a `Text` that shares their memory, which is given back when the last one
-    /// that shares it is gone. It fails only on allocation.
-    pub fn to_listing(&self) -> Result<Listing<Text>, AllocError>
-        ensures { IfOk result (λ list. list ≡ self.now) }
+    /// The texts, lent. It fails only on allocation.
+    pub fn to_strs(&self) -> Result<Vec<&str>, AllocError>
+        ensures { IfOk result (λ it. lent_texts it.items ≡ self.now) }
     {
-        let mut list = Vec::with_capacity(*self.ends.allocator(), self.ends.len())?;
-        let mut start = 0;
-        for end in &self.ends {
-            list.push(Text::of_part(Part::new(&self.whole, start, *end)?))?;
-            start = *end;
+        let mut texts = Vec::with_capacity(*self.spans.allocator(), self.len())?;
+        for index in 0..self.len() {
+            texts.push(self.nth(index))?;
         }
-        Ok(Listing::from(list))
+        Ok(texts)
+    }
+
+    /// The text at an index, which shares the memory of all of them. It fails only on allocation.
+    pub fn to_text(&self, index: usize) -> Result<Text, AllocError>
+        requires within { index < length self.now }
+        ensures { IfOk result (λ text. text ≡ get_or self.now index []) }
+    {
+        let span = self.spans[index];
+        Ok(Text::of_part(Part::new(&self.whole, span.start, span.end)?))
+    }
+
+    /// Those texts at whose index `keep` says `true`, in their order and in the memory of all of
+    /// them. It fails only on allocation.
+    pub fn filtered(&self, keep: &[bool]) -> Result<Texts, AllocError>
+        ensures { IfOk result (λ it. it ≡ items_where_true keep.now self.now) }
+    {
+        let mut spans = Vec::with_capacity(*self.spans.allocator(), count_of(keep))?;
+        for index in 0..self.spans.len().min(keep.len()) {
+            if !keep[index] {
+                continue;
+            }
+            spans.push(self.spans[index])?;
+        }
+        Ok(Texts {
+            whole: self.whole.clone()?,
+            spans,
+        })
     }
 }
 
-// Where the text at an index begins, of those that end at these places.
-fn start_of(ends: &[usize], index: usize) -> usize
-    requires { index < length ends.now }
-    ensures { result ≡ get_or (0 ∷ ends.now) index 0 }
-{
-    if index == 0 { 0 } else { ends[index - 1] }
-}
-
-// Where a text ends that stands in another from a place on.
-fn end_of_next(whole: &ArcStr, start: usize, text: &str) -> usize
+// Where a text stands that another has from a place on.
+fn next_span(whole: &ArcStr, start: usize, text: &str) -> Span
     requires { (left : List ℕ) × IsLeft (arc_str_bytes whole.now) start (text.now ++ left) }
-    ensures end { result ≡ start + length text.now }
-    ensures inside { IsPart (arc_str_bytes whole.now) start result }
-    ensures part { part_of (arc_str_bytes whole.now) start result ≡ text.now }
+    ensures inside { IsSpan (arc_str_bytes whole.now) result }
+    ensures text { text_at (arc_str_bytes whole.now) result ≡ text.now }
     ensures left { (left : List ℕ) → IsLeft (arc_str_bytes whole.now) start (text.now ++ left)
-        → IsLeft (arc_str_bytes whole.now) result left }
+        → IsLeft (arc_str_bytes whole.now) result.end left }
 {
     // Its length is known so, and no sum wraps.
     let _whole = whole.as_str();
-    start + text.len()
+    Span {
+        start,
+        end: start + text.len(),
+    }
 }
 
 // Texts, one behind another.
@@ -148,13 +174,22 @@ fn length_of(texts: &[&str]) -> usize {
     count
 }
 
+// How many of these are true, for which room is made at once.
+fn count_of(keep: &[bool]) -> usize {
+    let mut count: usize = 0;
+    for kept in keep {
+        count = count.saturating_add(usize::from(*kept));
+    }
+    count
+}
+
 impl Clone for Texts {
     ghost is_clone = { λ original copy. copy ≡ original };
 
     fn clone(&self) -> Result<Texts, AllocError> {
         Ok(Texts {
             whole: self.whole.clone()?,
-            ends: self.ends.clone()?,
+            spans: self.spans.clone()?,
         })
     }
 }
@@ -165,7 +200,15 @@ impl PartialEq for Texts {
     ghost laws = { lists_per (partial_equiv_from_equiv nat_list_eq_equiv) };
 
     fn eq(&self, other: &Texts) -> bool {
-        self.ends == other.ends && self.whole == other.whole
+        if self.len() != other.len() {
+            return false;
+        }
+        for index in 0..self.len() {
+            if self.nth(index) != other.nth(index) {
+                return false;
+            }
+        }
+        true
     }
 }
 

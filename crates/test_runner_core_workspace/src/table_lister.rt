@@ -62,7 +62,7 @@ impl<'a> Lister for TableLister<'a> {
         let id = binary.id.clone()?;
         self.asked.push(id)?;
         match self.index.get(binary.id.as_str()) {
-            Some(found) => listed(alloc, &found.tests),
+            Some(found) => listed(&found.tests),
             None => Err(ListFault::Cause(binary.id.clone()?)),
         }
     }
