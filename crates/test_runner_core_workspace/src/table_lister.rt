@@ -5,7 +5,7 @@ ghost use Rattle.test_runner_core_workspace.specs.Lister.{IsAnswer, IsIndex, ans
 use crate::list_fault::ListFault;
 use crate::lister::Lister;
 use crate::record::{Binary, BinaryTests, WorkspaceRecord};
-use nextest_text::{Listing, Text};
+use nextest_text::{Listing, Text, Texts};
 use std::alloc::{AllocError, Global};
 use std::collections::BTreeMap;
 use std::marker::Model;
@@ -58,7 +58,7 @@ impl<'a> Lister for TableLister<'a> {
 
     ghost asked = { λ lister. lister.asked };
 
-    fn list(&mut self, binary: &Binary) -> Result<Listing<Text>, ListFault> {
+    fn list(&mut self, binary: &Binary) -> Result<Texts, ListFault> {
         let id = binary.id.clone()?;
         self.asked.push(id)?;
         match self.index.get(binary.id.as_str()) {
@@ -69,7 +69,7 @@ impl<'a> Lister for TableLister<'a> {
 }
 
 // What a binary lists, as an answer.
-fn listed(tests: &BinaryTests) -> Result<Listing<Text>, ListFault>
+fn listed(tests: &BinaryTests) -> Result<Texts, ListFault>
     ensures { IsAnswer result (answer_of tests.now) }
 {
     match tests {
