@@ -2,9 +2,10 @@
 use Rattle.std.specs.Prelude.{◌≡◌, ℕ, Bool, true, false, ⊤, List, Option, None, Some}
 use Rattle.std.specs.List.{AllZip, list_any}
 use Rattle.nextest_filtering_filters.specs.Formula.{AreValues}
-use Rattle.nextest_filtering_filters.specs.Questions.{comes_to, holds_by}
+use Rattle.nextest_filtering_filters.specs.Questions.{comes_to, decided, holds_by}
 use Rattle.nextest_filtering_filters.specs.Steps.{formula_of}
 use Rattle.nextest_filtering_filters.specs.Values.{IsSome, may_by}
+use Rattle.nextest_filtering_filters.specs.declared.questions.Decision.{Decision}
 use Rattle.nextest_filtering_filters.specs.declared.questions.Questions.{Questions}
 use Rattle.nextest_filtering_filters.specs.declared.values.Values.{Values}
 use Rattle.nextest_filtering_ast.specs.Matching.{comparison_of, text_of}
@@ -66,6 +67,13 @@ abbrev pub IsAnswer : List Asked → Questions → Bool → List ℕ → Bool �
 IsAnswer them questions default name value =
     (binary : Binary) (leaves : List FiltersetLeaf) (answer : ℕ → Bool) → AllZip (IsFor binary) leaves them
     → AreAnswers binary name default leaves answer → value ≡ comes_to answer questions
+
+-- what a formula comes to that the answer of one predicate decides so, on a test of this name, whose
+-- groups nobody knows, where the default filter holds nowhere
+abbrev pub IsDecided : Asked → Decision → List ℕ → Bool → Type 0
+IsDecided it decision name value =
+    (binary : Binary) (leaf : FiltersetLeaf) (answer : Bool) → IsFor binary leaf it
+    → IsLeafValue binary name (λ m. ⊥) false leaf answer → value ≡ decided decision answer
 
 -- questions that come to what a filter is, whatever its predicates may be on the binary
 abbrev pub AreQuestionsOf : Binary → Compiled → Questions → Type 0

@@ -6,7 +6,7 @@ ghost use Rattle.nextest_filtering_ast.specs.Tree.{contains};
 ghost use Rattle.nextest_filtering_filters.specs.Filter.{leaf_at};
 ghost use Rattle.nextest_filtering_filters.specs.Formula.{AreValues};
 ghost use Rattle.nextest_filtering_filters.specs.Values.{IsSome, may_by};
-ghost use Rattle.nextest_filtering_filters.specs.Asking.{AreAnswers, IsAnswer, IsFor, IsLeafValue, values_may};
+ghost use Rattle.nextest_filtering_filters.specs.Asking.{AreAnswers, IsAnswer, IsDecided, IsFor, IsLeafValue, values_may};
 ghost use Rattle.nextest_filtering_filters.specs.Meaning.{Either, MayBe, Tells};
 ghost use Rattle.nextest_filtering_filters.specs.Query.{Binary, binary_of, test_of};
 ghost use Rattle.nextest_filtering_filters.specs.Questions.{comes_to, decided};
@@ -213,10 +213,8 @@ fn asked_answers(
     asked: &mut Asked<'_>,
     names: &[&str],
 ) -> Result<Vec<bool>, AllocError>
-    ensures values { IfOk result (λ values. AllZip (λ name value.
-        (binary : Binary) (leaf : FiltersetLeaf) (answer : Bool) → IsFor binary leaf asked.old
-        → IsLeafValue binary name.now (λ m. ⊥) false leaf answer
-        → value ≡ decided decision answer) names.now values.items) }
+    ensures values { IfOk result (λ values. AllZip
+        (λ name value. IsDecided asked.old decision name.now value) names.now values.items) }
     ensures stays { (binary : Binary) (leaf : FiltersetLeaf) → IsFor binary leaf asked.old
         → IsFor binary leaf asked.new }
 {
@@ -234,10 +232,8 @@ fn decided_answers(
     asked: &mut Asked<'_>,
     names: &[&str],
 ) -> Result<Vec<bool>, AllocError>
-    ensures values { IfOk result (λ values. AllZip (λ name value.
-        (binary : Binary) (leaf : FiltersetLeaf) (answer : Bool) → IsFor binary leaf asked.old
-        → IsLeafValue binary name.now (λ m. ⊥) false leaf answer
-        → value ≡ decided decision answer) names.now values.items) }
+    ensures values { IfOk result (λ values. AllZip
+        (λ name value. IsDecided asked.old decision name.now value) names.now values.items) }
     ensures stays { (binary : Binary) (leaf : FiltersetLeaf) → IsFor binary leaf asked.old
         → IsFor binary leaf asked.new }
 {

@@ -1,8 +1,6 @@
 use Rattle.std.proofs.Common.{◌≡◌, [], ◌∙◌, ap, get_or, Bool, Bor, List, ℕ, arith, false}
-use Rattle.nextest_filtering_filters.specs.Asking.{IsFor, IsLeafValue}
-use Rattle.nextest_filtering_filters.specs.Query.{Binary}
+use Rattle.nextest_filtering_filters.specs.Asking.{IsDecided}
 use Rattle.nextest_filtering_filters.specs.Questions.{decided}
-use Rattle.nextest_filtering_filters.specs.declared.leaf.FiltersetLeaf.{FiltersetLeaf}
 use Rattle.nextest_filtering_filters.proofs.ByName.{one_leaf}
 use Rattle.nextest_filtering_filters.proofs.Lists.{zip_end, zip_more_read}
 use Rattle.nextest_filtering_filters.proofs.asked.asked_answers.Goals as goal
@@ -15,7 +13,7 @@ loop-name-preserved c =
     let told = c.in_ok-on_name in
     record {
       values = zip_more_read
-          (λ (name : Bor (List ℕ)) (value : Bool). (binary : Binary) (leaf : FiltersetLeaf) (answer : Bool) → IsFor binary leaf c.args.asked.now → IsLeafValue binary name.now (λ m. ⊥) false leaf answer → value ≡ decided c.args.decision answer)
+          (λ (name : Bor (List ℕ)) (value : Bool). IsDecided c.args.asked.now c.args.decision name.now value)
           c.args.names.now l.values.items c.push.new.self.items l.name-index none c.of.result c.loop-name-test.true c.in_ok-push.ensures.items
           (λ binary leaf answer is value.
           c.of.ensures ∙ ap (decided c.args.decision) (one_leaf binary name false leaf told.field-0 answer (told.ensures.value binary leaf (l.invariant.stays binary leaf is)) value))
@@ -27,7 +25,7 @@ pub returns-clause-values : goal.returns-clause-values
 returns-clause-values c =
     let l = c.loop-name in
     zip_end
-    (λ (name : Bor (List ℕ)) (value : Bool). (binary : Binary) (leaf : FiltersetLeaf) (answer : Bool) → IsFor binary leaf c.args.asked.now → IsLeafValue binary name.now (λ m. ⊥) false leaf answer → value ≡ decided c.args.decision answer)
+    (λ (name : Bor (List ℕ)) (value : Bool). IsDecided c.args.asked.now c.args.decision name.now value)
     c.args.names.now l.values.items l.name-index (omega arith) l.invariant.values
 
 pub returns-in_err-on_name-clause-stays : goal.returns-in_err-on_name-clause-stays
