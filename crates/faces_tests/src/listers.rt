@@ -1,6 +1,6 @@
 // A lister of a user's own.
 use std::alloc::Global;
-use test_runner_core::{Binary, ListFault, Lister, Listing, Text};
+use test_runner_core::{Binary, ListFault, Lister, Listing, Text, Texts};
 
 /// A suite in which every binary has one test, of this name.
 #[derive(Drop)]
@@ -28,10 +28,8 @@ impl Lister for Suite {
 
     ghost asked = { λ suite. suite.asked };
 
-    fn list(&mut self, binary: &Binary) -> Result<Listing<Text>, ListFault> {
+    fn list(&mut self, binary: &Binary) -> Result<Texts, ListFault> {
         self.asked.push(binary.id.clone()?)?;
-        let mut names = Listing::new(self.alloc);
-        names.push(self.name.clone()?)?;
-        Ok(names)
+        Ok(Texts::from_strs(self.alloc, &[self.name.as_str()])?)
     }
 }

@@ -31,7 +31,7 @@ pub use nextest_run_events_results::{
     AbortDescription, CancelReason, ExecutionResultDescription, FailureDescription,
     OwnedTestInstanceId, Record, RecordOutput, RustBinaryId, TestInstanceId,
 };
-pub use nextest_text::{Listing, Text};
+pub use nextest_text::{Listing, Text, Texts};
 pub use nextest_version::PlainVersion;
 pub use refused_line::{LineRefusal, RefusedLine};
 pub use test_runner_core_inputs::{

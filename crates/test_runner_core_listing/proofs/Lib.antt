@@ -1,3 +1,4 @@
+pub mod Lent
 pub mod Differing
 pub mod OneByOne
 pub mod Walk
@@ -8,3 +9,4 @@ pub mod Added
 pub mod Listed
 pub mod FirstRefusal
 pub mod WholeListing
+pub mod Skipped

@@ -3,16 +3,16 @@ ghost use Rattle.std.specs.Prelude.{◌≡◌, ℕ, List, map, IfOk, IsTrue};
 ghost use Rattle.std.specs.List.{IsDistinct};
 ghost use Rattle.std.specs.Ordering.{is_lt, nat_cmp};
 ghost use Rattle.std.specs.Str.{bytes_eq};
+ghost use Rattle.nextest_text.specs.Parts.{lent_texts};
 ghost use Rattle.test_runner_core_listing.specs.Hashed.{hash};
 
-use nextest_text::Text;
 use std::alloc::{AllocError, Global};
 use std::hash::{FoldHasher, Hasher};
 
 // Whether it is found that no name stands twice among these: by their order where they rise, as
 // mostly they do, else by their hashes.
-pub(crate) fn differ(alloc: Global, names: &[Text]) -> Result<bool, AllocError>
-    ensures { IfOk result (λ found. IsTrue found → IsDistinct bytes_eq names.now) }
+pub(crate) fn differ(alloc: Global, names: &[&str]) -> Result<bool, AllocError>
+    ensures { IfOk result (λ found. IsTrue found → IsDistinct bytes_eq (lent_texts names.now)) }
 {
     if rise(names) {
         return Ok(true);
@@ -22,8 +22,8 @@ pub(crate) fn differ(alloc: Global, names: &[Text]) -> Result<bool, AllocError>
 }
 
 // Whether each name is greater than the one before it.
-fn rise(names: &[Text]) -> bool
-    ensures { IsTrue result → IsDistinct bytes_eq names.now }
+fn rise(names: &[&str]) -> bool
+    ensures { IsTrue result → IsDistinct bytes_eq (lent_texts names.now) }
 {
     for place in 1..names.len() {
         if names[place] <= names[place - 1] {
@@ -34,12 +34,12 @@ fn rise(names: &[Text]) -> bool
 }
 
 // The hashes of names.
-fn hashes_of(alloc: Global, names: &[Text]) -> Result<Vec<u64>, AllocError>
-    ensures { IfOk result (λ it. it.items ≡ map hash names.now) }
+fn hashes_of(alloc: Global, names: &[&str]) -> Result<Vec<u64>, AllocError>
+    ensures { IfOk result (λ it. it.items ≡ map hash (lent_texts names.now)) }
 {
     let mut hashes = Vec::with_capacity(alloc, names.len())?;
     for name in names {
-        hashes.push(hash_of(name.as_str()))?;
+        hashes.push(hash_of(name))?;
     }
     Ok(hashes)
 }

@@ -1,6 +1,7 @@
 // Which tests are selected.
-ghost use Rattle.std.specs.Prelude.{◌≡◌, ◌∷◌, [], ◌++◌, All, map, IfOk, OnOk};
+ghost use Rattle.std.specs.Prelude.{◌≡◌, ◌∷◌, [], ◌++◌, ℕ, Bool, not, All, List, map, filter, IfOk, OnOk};
 ghost use Rattle.nextest_filtering_filters.specs.Meaning.{Tells};
+ghost use Rattle.nextest_text.specs.Parts.{lent_texts};
 ghost use Rattle.test_runner_core_listing.specs.Answers as answers;
 ghost use Rattle.test_runner_core_listing.specs.Listing as words;
 ghost use Rattle.test_runner_core_listing.specs.Selected.{tests_in};
@@ -13,7 +14,7 @@ use crate::query::query_of;
 use crate::selection::{SelectedTests, Selection};
 use nextest_filtering_filters::{BinaryEvaluator, CompiledExpr, EvalContext, GroupLookup};
 use nextest_run_events_results::{OwnedTestInstanceId, RustBinaryId};
-use nextest_text::{Listing, Text};
+use nextest_text::{Listing, Texts};
 use std::alloc::{AllocError, Global};
 use test_runner_core_workspace::{Binary, ListFault, Lister};
 
@@ -22,7 +23,7 @@ fn names_of<L: Lister>(
     alloc: Global,
     binary: &Binary,
     lister: &mut L,
-) -> Result<Listing<Text>, ListingError>
+) -> Result<Texts, ListingError>
     ensures names { words.Accepts result (words.accepted_answer (L.answer lister.old binary.now)) }
     ensures stays { (other : Binary) → L.answer lister.new other ≡ L.answer lister.old other }
     ensures asks { words.Asks result (L.asked lister.old) (binary.now.id ∷ [])
@@ -35,7 +36,7 @@ fn names_of<L: Lister>(
         }
         Err(ListFault::OutOfMemory) => return Err(ListingError::OutOfMemory),
     };
-    match refusal(alloc, names.as_slice())? {
+    match refusal(alloc, &names)? {
         Some(refused) => Err(ListingError::Refused(refused)),
         None => Ok(names),
     }
@@ -112,12 +113,55 @@ fn is_selected<G: GroupLookup>(
     Ok(true)
 }
 
+// Of each of these names of a binary whether its test is selected.
+fn selects<G: GroupLookup>(
+    alloc: Global,
+    names: &[&str],
+    evaluators: &mut [BinaryEvaluator<'_>],
+    groups: &G,
+) -> Result<Vec<bool>, AllocError>
+    ensures selects { (binary : Binary) (chosen : answers.Answers)
+        → answers.AnswerOn evaluators.old binary (G.member groups.now) chosen
+        → IfOk result (λ it. it.items ≡ map (chosen.selects binary) (lent_texts names.now)) }
+{
+    let mut selected = Vec::with_capacity(alloc, names.len())?;
+    for name in names {
+        selected.push(is_selected(evaluators, name, groups)?)?;
+    }
+    Ok(selected)
+}
+
+// Adds those tests of a binary that aren't selected.
+fn skip_others(
+    alloc: Global,
+    binary: &Binary,
+    names: &Texts,
+    selected: &[bool],
+    skipped: &mut Listing<OwnedTestInstanceId>,
+) -> Result<(), AllocError>
+    ensures { (on : List ℕ → Bool) → selected.now ≡ map on names.now
+        → OnOk result (skipped.new ≡ skipped.old
+            ++ words.tests_of binary.now (filter (λ name. not (on name)) names.now)) }
+{
+    let id = RustBinaryId::new(alloc, binary.id.as_str())?;
+    for index in 0..names.len().min(selected.len()) {
+        if selected[index] {
+            continue;
+        }
+        skipped.push(OwnedTestInstanceId {
+            binary_id: id.clone()?,
+            test_name: names.to_text(index)?,
+        })?;
+    }
+    Ok(())
+}
+
 // Adds the tests of a binary: those on which all filters hold to the selected ones, and the others
 // to those left out.
 fn add_tests<'w, G: GroupLookup>(
     alloc: Global,
     binary: &'w Binary,
-    names: Listing<Text>,
+    names: &Texts,
     evaluators: &mut [BinaryEvaluator<'_>],
     groups: &G,
     found: &mut Selection<'w>,
@@ -125,29 +169,19 @@ fn add_tests<'w, G: GroupLookup>(
     ensures listed { OnOk result (found.new.listed ≡ found.old.listed) }
     ensures tests { (chosen : answers.Answers)
         → answers.AnswerOn evaluators.old binary.now (G.member groups.now) chosen
-        → let more = words.selected_in chosen binary.now names in
+        → let more = words.selected_in chosen binary.now names.now in
         OnOk result (tests_in found.new.tests.items ≡ tests_in found.old.tests.items ++ more) }
     ensures skipped { (chosen : answers.Answers)
         → answers.AnswerOn evaluators.old binary.now (G.member groups.now) chosen
-        → let more = words.skipped_in chosen binary.now names in
+        → let more = words.skipped_in chosen binary.now names.now in
         OnOk result (found.new.skipped ≡ found.old.skipped ++ more) }
 {
-    let id = RustBinaryId::new(alloc, binary.id.as_str())?;
-    let mut on_all = Listing::from(Vec::with_capacity(alloc, names.len())?);
-    for name in Vec::from(names) {
-        let selected = is_selected(evaluators, name.as_str(), groups)?;
-        if selected {
-            on_all.push(name)?;
-        } else {
-            found.skipped.push(OwnedTestInstanceId {
-                binary_id: id.clone()?,
-                test_name: name,
-            })?;
-        }
-    }
+    let texts = names.to_strs()?;
+    let selected = selects(alloc, texts.as_slice(), evaluators, groups)?;
+    skip_others(alloc, binary, names, selected.as_slice(), &mut found.skipped)?;
     found.tests.push(SelectedTests {
         binary,
-        names: on_all,
+        names: names.filtered(selected.as_slice())?,
     })?;
     Ok(())
 }
@@ -171,7 +205,7 @@ fn list_one<'w, L: Lister, G: GroupLookup>(
 {
     let names = names_of(alloc, binary, lister)?;
     found.listed.push(binary.id.clone()?)?;
-    add_tests(alloc, binary, names, evaluators, groups, found)?;
+    add_tests(alloc, binary, &names, evaluators, groups, found)?;
     Ok(())
 }
 

@@ -1,6 +1,6 @@
 // The listed binaries, the selected tests, and those that are left out.
 use nextest_run_events_results::OwnedTestInstanceId;
-use nextest_text::{Listing, Text};
+use nextest_text::{Listing, Text, Texts};
 use test_runner_core_workspace::Binary;
 
 /// The selected tests of a binary.
@@ -9,7 +9,7 @@ pub struct SelectedTests<'w> {
     /// The binary.
     pub binary: &'w Binary,
     /// The names of its selected tests, as they were listed.
-    pub names: Listing<Text>,
+    pub names: Texts,
 }
 
 /// The listed binaries, the selected tests, and those that are left out.

@@ -10,10 +10,9 @@ use Rattle.std.specs.Cmp.{Equal-is, booleans_Decides}
 use Rattle.std.specs.Cmp.Lexicographic.{pointwise}
 use Rattle.nextest_config_elements_choices.specs.declared.run_mode.NextestRunMode.{NextestRunMode}
 use Rattle.nextest_config_resolution_profiles.specs.Evaluatable.{Evaluatable}
-use Rattle.nextest_config_resolution_profiles.specs.HeldRules.{AreHeldColumns, Columns, held_row, row_number, rule_count}
+use Rattle.nextest_config_resolution_profiles.specs.HeldRules.{Columns, held_row, row_number, rule_count}
 use Rattle.nextest_config_resolution_profiles.proofs.RowNumbers.{held_length, one_numbered}
 use Rattle.nextest_filtering_compiling.specs.declared.filterset.Filterset.{Filterset}
-use Rattle.nextest_filtering_filters.specs.Query as query
 use Rattle.nextest_filtering_filters.specs.Query.{Test}
 use Rattle.test_runner_core_listing.specs.Answers.{seen_test}
 use Rattle.test_runner_core_listing.specs.Selected.{tests_in, tests_of_one}
@@ -63,11 +62,6 @@ numbered_row row place held few long same =
 pub copied : {X E : Type 0} (Fails : E → Type 0) (P : X → Type 0) (it : X) (result : Result X E) → MatchResult result (λ (copy : X). copy ≡ it) Fails → P it → IfOk result P
 copied Fails P it (Ok copy) same is = subst P (sym same) is
 copied Fails P it (Err error) same is = tt
-
--- the columns of rules, by other words for the same names
-pub held_names : {F S : Type 0} (OnTest : F → F → query.Test → Bool → Type 0) (profile : Evaluatable F S) (binary : query.Binary) (names others : List (List ℕ)) (held : Columns) → names ≡ others
-    → AreHeldColumns OnTest profile binary names held → AreHeldColumns OnTest profile binary others held
-held_names OnTest profile binary names others held same are = subst (λ (them : List (List ℕ)). AreHeldColumns OnTest profile binary them held) same are
 
 -- the tests of one more binary
 pub tests_more : (selected : List SelectedTests) (it : SelectedTests) → tests_in (selected ++ it ∷ []) ≡ tests_in selected ++ tests_of_one it

@@ -1,14 +1,16 @@
 -- Tests turn by turn, of each priority.
-use Rattle.std.proofs.Common.{◌≡◌, ℤ, Bool, true, false, not, ◌||◌, List, [], ◌∷◌, ◌++◌, cond, refl, sym, ap, ◌∙◌, subst, append_assoc}
+use Rattle.std.proofs.Common.{◌≡◌, ◌<◌, ◌≤◌, ◌+◌, ℕ, zero, suc, ℤ, length, get_or, drop, min, arith, Bool, true, false, not, ◌||◌, List, [], ◌∷◌, ◌++◌, cond, refl, sym, ap, ◌∙◌, subst, append_assoc}
 use Rattle.std.specs.List.{filter, list_any}
 use Rattle.std.specs.List.Sorted.{IsPermutation}
 use Rattle.std.specs.Ordering.{int_eq}
+use Rattle.std.proofs.lemmas.List.{append-nil, drop_all, drop_more}
 use Rattle.std.proofs.lemmas.Bool.{false≢true}
 use Rattle.std.proofs.lemmas.Bool.Decides.{Decides-int_eq}
 use Rattle.std.proofs.lemmas.List.Folds.{list_any-append}
 use Rattle.std.proofs.lemmas.List.Sorted.{IsPermutation-append_left, IsPermutation-cons, IsPermutation-filter_both, IsPermutation-refl, IsPermutation-sym, IsPermutation-to_front, IsPermutation-trans}
 use Rattle.test_runner_core_plan.specs.declared.plan.PlanTest.{PlanTest}
-use Rattle.test_runner_core_planning.specs.Settled.{is_among}
+use Rattle.test_runner_core_plan.specs.declared.plan_settings.PlanSettings.{PlanSettings}
+use Rattle.test_runner_core_planning.specs.Settled.{is_among, settled_test, tests_of_binary}
 
 -- an element in the middle, at the front
 to_front : {X : Type 0} (front back : List X) (x : X) → IsPermutation (x ∷ (front ++ back)) (front ++ x ∷ back)
@@ -29,6 +31,43 @@ parted {X = X} p q r either apart (x ∷ xs) = by_tests (p x) (q x) (r x) refl r
       rw is (IsPermutation-trans (x ∷ filter r xs) (x ∷ (filter p xs ++ filter q xs)) (filter p xs ++ x ∷ filter q xs)
       (IsPermutation-cons x (filter r xs) (filter p xs ++ filter q xs) more) (to_front (filter p xs) (filter q xs) x))
   by_tests false false c first second is more = rw is more
+
+-- ---- one after another
+
+-- the test at a place
+pub test_at : (id : List ℕ) (names : List (List ℕ)) (settings : List PlanSettings) (i : ℕ) (name : List ℕ) (it : PlanSettings) (other : PlanTest) → i < length names → i < length settings
+    → name ≡ get_or names i [] → it ≡ get_or settings i it → get_or (tests_of_binary id names settings) i other ≡ settled_test id name it
+test_at id [] settings i name it other named has is_name is = absurd (omega (arith, named))
+test_at id (first ∷ names) [] i name it other named has is_name is = absurd (omega (arith, has))
+test_at id (first ∷ names) (own ∷ settings) zero name it other named has is_name is = ap (λ text. settled_test id text own) (sym is_name) ∙ ap (settled_test id name) (sym is)
+test_at id (first ∷ names) (own ∷ settings) (suc i) name it other named has is_name is = test_at id names settings i name it other (omega (arith, named)) (omega (arith, has)) is_name is
+
+-- how many there are
+pub tests_count : (id : List ℕ) (names : List (List ℕ)) (settings : List PlanSettings) → length (tests_of_binary id names settings) ≡ min (length names) (length settings)
+tests_count id [] settings = omega arith
+tests_count id (name ∷ names) [] = omega arith
+tests_count id (name ∷ names) (own ∷ settings) = omega (arith, tests_count id names settings)
+
+-- a test whose turn it isn't is passed
+pub turn_passed : (its : PlanTest → Bool) (all before initial : List PlanTest) (i : ℕ) (test : PlanTest) → i < length all → get_or all i test ≡ test → its test ≡ false
+    → before ++ filter its (drop i all) ≡ initial ++ filter its all → before ++ filter its (drop (i + 1) all) ≡ initial ++ filter its all
+turn_passed its all before initial i test within is no so_far =
+    let rest = filter its (drop (i + 1) all) in
+    ap (λ left. before ++ left) (sym (ap (filter its) (drop_more all i test within ∙ ap (λ one. one ∷ drop (i + 1) all) is) ∙ ap (λ truth. cond truth (test ∷ rest) rest) no)) ∙ so_far
+
+-- one whose turn it is is added
+pub turn_taken : (its : PlanTest → Bool) (all before after initial : List PlanTest) (i : ℕ) (test : PlanTest) → i < length all → get_or all i test ≡ test → its test ≡ true → after ≡ before ++ test ∷ []
+    → before ++ filter its (drop i all) ≡ initial ++ filter its all → after ++ filter its (drop (i + 1) all) ≡ initial ++ filter its all
+turn_taken its all before after initial i test within is yes adds so_far =
+    let rest = filter its (drop (i + 1) all) in
+    ap (λ tests. tests ++ rest) adds
+    ∙ append_assoc before (test ∷ []) rest
+    ∙ ap (λ left. before ++ left) (sym (ap (filter its) (drop_more all i test within ∙ ap (λ one. one ∷ drop (i + 1) all) is) ∙ ap (λ truth. cond truth (test ∷ rest) rest) yes))
+    ∙ so_far
+
+-- at the end none is left
+pub turn_done : (its : PlanTest → Bool) (all before initial : List PlanTest) (i : ℕ) → length all ≤ i → before ++ filter its (drop i all) ≡ initial ++ filter its all → before ≡ initial ++ filter its all
+turn_done its all before initial i past so_far = sym (append-nil before) ∙ ap (λ left. before ++ filter its left) (sym (drop_all i all past)) ∙ so_far
 
 -- ---- turn by turn
 

@@ -7,7 +7,7 @@ ghost use Rattle.test_runner_core_planning.specs.Settled.{is_in_turn, settled_te
 
 use nextest_config_elements_values::TestPriority;
 use nextest_run_events_results::{OwnedTestInstanceId, RustBinaryId};
-use nextest_text::{Listing, Text};
+use nextest_text::{Text, Texts};
 use std::alloc::{AllocError, Global};
 use std::marker::Model;
 use test_runner_core_plan::{PlanTest, SharedSettings};
@@ -19,7 +19,7 @@ const MANY: usize = 16;
 // plan.
 pub(crate) struct SettledBinary {
     pub(crate) id: RustBinaryId,
-    pub(crate) names: Listing<Text>,
+    pub(crate) names: Texts,
     pub(crate) settings: Vec<SharedSettings>,
 }
 
@@ -57,26 +57,15 @@ enum Turn<'p> {
 // the order of the priorities; so the plan's order is found sooner, and nothing else depends on it.
 pub(crate) fn tests_by_priority(
     alloc: Global,
-    binaries: Vec<SettledBinary>,
+    binaries: &[SettledBinary],
     priorities: &[TestPriority],
 ) -> Result<Vec<PlanTest>, AllocError>
-    ensures { IfOk result (λ tests. IsPermutation (tests_of_all binaries.items) tests.items) }
+    ensures { IfOk result (λ tests. IsPermutation (tests_of_all binaries.now) tests.items) }
 {
     if priorities.len() < 2 || priorities.len() > MANY {
-        return tests_as_listed(alloc, binaries);
+        return tests_in_turns(alloc, binaries, &[]);
     }
-    tests_in_turns(alloc, binaries.as_slice(), priorities)
-}
-
-// The tests of binaries, as they were listed.
-fn tests_as_listed(alloc: Global, binaries: Vec<SettledBinary>) -> Result<Vec<PlanTest>, AllocError>
-    ensures { IfOk result (λ tests. tests.items ≡ tests_of_all binaries.items) }
-{
-    let mut tests = Vec::with_capacity(alloc, count_of(binaries.as_slice()))?;
-    for binary in binaries {
-        binary.push_all(&mut tests)?;
-    }
-    Ok(tests)
+    tests_in_turns(alloc, binaries, priorities)
 }
 
 // How many tests these are, for which room is made at once.
@@ -86,23 +75,6 @@ fn count_of(binaries: &[SettledBinary]) -> usize {
         count = count.saturating_add(binary.names.len());
     }
     count
-}
-
-impl SettledBinary {
-    // Adds the tests of the binary.
-    fn push_all(self, tests: &mut Vec<PlanTest>) -> Result<(), AllocError>
-        ensures { OnOk result (tests.new.items ≡ tests.old.items ++ self) }
-    {
-        let SettledBinary {
-            id,
-            names,
-            settings,
-        } = self;
-        for (name, settings) in Vec::from(names).into_iter().zip(settings) {
-            push_test(&id, name, settings, tests)?;
-        }
-        Ok(())
-    }
 }
 
 // The tests of binaries: those of the first priority, those of the next and so on, and those of
@@ -150,10 +122,13 @@ fn push_turn_of(
     ensures { OnOk result
         (tests.new.items ≡ tests.old.items ++ filter (is_in_turn turn.now) binary.now) }
 {
-    for (name, settings) in binary.names.as_slice().iter().zip(&binary.settings) {
-        if is_in_turn(turn, settings.priority) {
-            push_test(&binary.id, name.clone()?, settings.clone()?, tests)?;
+    for index in 0..binary.names.len().min(binary.settings.len()) {
+        let settings = &binary.settings[index];
+        if !is_in_turn(turn, settings.priority) {
+            continue;
         }
+        let name = binary.names.to_text(index)?;
+        push_test(&binary.id, name, settings.clone()?, tests)?;
     }
     Ok(())
 }

@@ -5,7 +5,6 @@ ghost use Rattle.nextest_config_elements_choices.specs.declared.run_mode.Nextest
 ghost use Rattle.nextest_config_resolution_profiles.specs.Enabled.{AreNamesOf, HasEnabled, IsEnabled};
 ghost use Rattle.nextest_config_resolution_profiles.specs.Evaluatable.{Evaluatable};
 ghost use Rattle.nextest_config_resolution_profiles.specs.HeldRules.{AreHeldColumns, AreNumbers, held_row, row_number, rule_count};
-ghost use Rattle.nextest_config_resolution_settings.specs.Nearest.{lent_layers};
 ghost use Rattle.nextest_filtering_compiling.specs.Filtersets.{HasOnTest};
 ghost use Rattle.nextest_filtering_compiling.specs.declared.filterset.Filterset.{Filterset};
 ghost use Rattle.nextest_filtering_filters.specs.Query.{Test};
@@ -23,7 +22,7 @@ use nextest_config_elements_values::TestPriority;
 use nextest_config_resolution_profiles::{EnabledNames, EvaluatableProfile, HeldRules};
 use nextest_filtering_compiling::Filterset;
 use nextest_run_events_results::RustBinaryId;
-use nextest_text::{Listing, Text};
+use nextest_text::{Listing, Text, Texts};
 use std::alloc::{AllocError, Global};
 use std::collections::BTreeMap;
 use test_runner_core_listing::{SelectedTests, query_of};
@@ -84,7 +83,7 @@ pub(crate) fn settled_tests(
         binaries.push(settled_binary(alloc, profile, mode, of_binary, &mut shared, &mut names)?)?;
     }
     let priorities = priorities_of(alloc, &shared)?;
-    let tests = tests_by_priority(alloc, binaries, priorities.as_slice())?;
+    let tests = tests_by_priority(alloc, binaries.as_slice(), priorities.as_slice())?;
     let scripts = names.listed(alloc)?;
     Ok(SettledTests { tests, scripts })
 }
@@ -119,7 +118,7 @@ fn settled_binary(
         (HasEnabled HasOnTest profile.now (before ++ tests_of_one of_binary.entry) scripts.new) }
 {
     let SelectedTests { binary, names } = of_binary;
-    let held = held_rules_of(alloc, profile, binary, names.as_slice())?;
+    let held = held_rules_of(alloc, profile, binary, &names)?;
     profile.add_scripts(alloc, &held, names.len(), scripts)?;
     let settings = settings_of_each(alloc, profile, mode, &held, names.len(), shared)?;
     Ok(SettledBinary {
@@ -201,23 +200,12 @@ fn held_rules_of(
     alloc: Global,
     profile: &EvaluatableProfile<'_, Filterset, PlatformSpec>,
     binary: &Binary,
-    names: &[Text],
+    names: &Texts,
 ) -> Result<HeldRules, AllocError>
     ensures { IfOk result (AreHeldColumns HasOnTest profile.now (query_of binary.now) names.now) }
 {
-    let texts = texts_of(alloc, names)?;
+    let texts = names.to_strs()?;
     profile.held_rules(alloc, &query_of(binary), texts.as_slice())
-}
-
-// The names, each lent as a text.
-fn texts_of<'n>(alloc: Global, names: &'n [Text]) -> Result<Vec<&'n str>, AllocError>
-    ensures { IfOk result (λ it. lent_layers it.items ≡ names.now) }
-{
-    let mut texts = Vec::with_capacity(alloc, names.len())?;
-    for name in names {
-        texts.push(name.as_str())?;
-    }
-    Ok(texts)
 }
 
 // The settings of each test on which just those rules hold that hold on the one at a place: what is

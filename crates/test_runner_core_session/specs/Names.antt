@@ -68,13 +68,14 @@ AreDistinct tests =
     → option_map_or (is_named id name) (slice_get tests place) false ≡ true
     → place ≡ place_of tests id name
 
--- tests are found so by their names
+-- how tests are found by their names: one after another, by halves where they rise, or by their
+-- places in the order of their names
 abbrev pub IsFoundBy : Order → List OwnedTestInstanceId → Type 0
 IsFoundBy order.Unknown tests = ⊤
 IsFoundBy order.Rising tests = IsStrictlySortedBy instance_cmp tests
 IsFoundBy (order.ByName by_name) tests = AreByName by_name.items tests
 
--- tests are found so, and no two have one name where that is said of them
+-- they are found so, and no two have one name where that is said of them
 abbrev pub KeepsPlaces : Order → Bool → List OwnedTestInstanceId → Type 0
 KeepsPlaces order are_distinct tests =
     IsFoundBy order tests × (IsTrue are_distinct → AreDistinct tests)

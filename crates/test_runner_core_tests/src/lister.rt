@@ -1,6 +1,6 @@
 // A lister of one's own: it is asked for each listed binary once, and its answers are the run's
 // tests.
-use nextest_text::{Listing, Text};
+use nextest_text::{Listing, Text, Texts};
 use std::alloc::Global;
 use std::test::Fail;
 use test_runner_core::{
@@ -20,7 +20,7 @@ impl Lister for OwnLister {
 
     ghost asked = { λ lister. lister.asked };
 
-    fn list(&mut self, binary: &Binary) -> Result<Listing<Text>, ListFault> {
+    fn list(&mut self, binary: &Binary) -> Result<Texts, ListFault> {
         let id = binary.id.clone()?;
         self.asked.push(id)?;
         match &binary.tests {
