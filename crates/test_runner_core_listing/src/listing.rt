@@ -141,7 +141,7 @@ fn skip_others(
 ) -> Result<(), AllocError>
     ensures { (on : List ℕ → Bool) → selected.now ≡ map on names.now
         → OnOk result (skipped.new ≡ skipped.old
-            ++ words.tests_of binary.now (filter (λ name. not (on name)) names.now)) }
+        ++ words.tests_of binary.now (filter (λ name. not (on name)) names.now)) }
 {
     let id = RustBinaryId::new(alloc, binary.id.as_str())?;
     for index in 0..names.len().min(selected.len()) {
@@ -178,7 +178,13 @@ fn add_tests<'w, G: GroupLookup>(
 {
     let texts = names.to_strs()?;
     let selected = selects(alloc, texts.as_slice(), evaluators, groups)?;
-    skip_others(alloc, binary, names, selected.as_slice(), &mut found.skipped)?;
+    skip_others(
+        alloc,
+        binary,
+        names,
+        selected.as_slice(),
+        &mut found.skipped,
+    )?;
     found.tests.push(SelectedTests {
         binary,
         names: names.filtered(selected.as_slice())?,

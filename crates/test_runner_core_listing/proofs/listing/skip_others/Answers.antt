@@ -1,7 +1,5 @@
-use Rattle.std.proofs.Common.{◌≡◌, ◌<◌, ◌≤◌, ◌+◌, ◌++◌, ◌∷◌, [], ℕ, List, length, get_or, drop, min, not, ap, sym, ◌∙◌, arith, append_assoc}
-use Rattle.std.specs.List.{filter}
+use Rattle.std.proofs.Common.{◌++◌, ap, sym, ◌∙◌, arith}
 use Rattle.std.proofs.lemmas.List.{append-nil}
-use Rattle.nextest_run_events_results.specs.declared.instance.OwnedTestInstanceId.{OwnedTestInstanceId}
 use Rattle.test_runner_core_listing.specs.Listing.{tests_of}
 use Rattle.test_runner_core_listing.proofs.Skipped.{none_left, one_left_out, passed}
 use Rattle.test_runner_core_listing.proofs.listing.skip_others.Goals as goal
