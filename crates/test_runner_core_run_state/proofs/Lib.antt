@@ -4,3 +4,4 @@ pub mod Kept
 pub mod OtherRecords
 pub mod Totals
 pub mod Taken
+pub mod Begun

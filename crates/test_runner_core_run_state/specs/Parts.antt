@@ -1,11 +1,11 @@
 -- The parts of a run's progress, and what each keeps.
-use Rattle.std.specs.Prelude.{◌≡◌, ℕ, ◌-◌, ◌≤◌, ◌<◌, Bool, true, false, List, Option, None, Some, ⊤, length}
+use Rattle.std.specs.Prelude.{◌≡◌, ℕ, ◌-◌, ◌≤◌, ◌<◌, Bool, true, false, List, [], ◌∷◌, Option, None, Some, ⊤, length, map}
 use Rattle.std.specs.Prelude.{slice_get, slice_set}
 use denote.Ref.{Bor}
 use Rattle.nextest_config_elements_choices.specs.declared.max_fail.MaxFail.{MaxFail}
 use Rattle.nextest_run_events_counters.specs.declared.run_stats.RunStats.{RunStats}
 use Rattle.nextest_run_events_results.specs.declared.record.Record.{Record}
-use Rattle.test_runner_core_run_model.specs.State.{TestState, State, is_finished, is_running, is_running_mark, is_finished_mark}
+use Rattle.test_runner_core_run_model.specs.State.{TestState, State, waiting, is_finished, is_running, is_running_mark, is_finished_mark}
 use Rattle.test_runner_core_run_model.specs.declared.mark.Mark.{Mark}
 use Rattle.test_runner_core_run_model.specs.declared.mark.Mark.TheVariants as marks
 use Rattle.test_runner_core_run_state.specs.Statuses.{ScriptStatus, AreScriptStatuses}
@@ -44,6 +44,16 @@ HasAttempts are_of records None None = ⊤
 HasAttempts are_of records None (Some kept) = ⊥
 HasAttempts are_of records (Some test) None = ⊥
 HasAttempts are_of records (Some test) (Some kept) = are_of test.plan kept.now × (records kept.now ≡ test.records)
+
+-- tests that wait, as planned, until there are tests of which some started
+abbrev pub states_of : List RunTest → List TestState → List TestState
+states_of planned [] = map waiting planned
+states_of planned (test ∷ tests) = test ∷ tests
+
+-- what is kept are no attempts, of whichever test
+pub record HasNoAttempts {Kept : Type 0} (are_of : RunTest → Kept → Type 0) (records : Kept → List Record) (kept : Kept) : Type 0 where
+  pub none : records kept ≡ []
+  pub of : (plan : RunTest) → are_of plan kept
 
 -- the state of a run that is kept in these parts; why it is stopped and how many tests were skipped
 -- is kept with the counters

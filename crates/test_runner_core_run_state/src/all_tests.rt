@@ -13,7 +13,7 @@ ghost use Rattle.test_runner_core_run_state.specs.Records.{tests_with, unwritten
 
 use crate::keep_attempts::KeepAttempts;
 use crate::kept_records::KeptRecords;
-use crate::test_progress::TestProgress;
+use crate::test_states::TestStates;
 use nextest_run_events_counters::RunStats;
 use nextest_run_events_results::CancelReason;
 use std::alloc::{AllocError, Global};
@@ -23,7 +23,7 @@ use test_runner_core_run_model::{Mark, RunTest};
 // How far the tests of a run are, and how many run. In a clause they are the states of the tests,
 // by their places.
 pub(crate) struct AllTests<A: KeepAttempts> {
-    tests: Vec<TestProgress<A>>,
+    tests: TestStates<A>,
     running: usize,
 }
 
@@ -43,20 +43,20 @@ impl<A: KeepAttempts> Model for AllTests<A> {
 
     ghost Value = { List TestState };
 
-    ghost view = { λ a. a.tests.items };
+    ghost view = { λ a. a.tests };
 
-    ghost invariant = { λ a. a.running ≡ count_by is_running a.tests.items };
+    ghost invariant = { λ a. a.running ≡ count_by is_running a.tests };
 }
 
 impl<A: KeepAttempts> AllTests<A> {
     // The tests of which no attempt started.
-    pub(crate) fn new(alloc: Global, planned: &[RunTest]) -> Result<AllTests<A>, AllocError>
-        ensures { IfOk result (λ tests. tests ≡ map waiting (planned.now)) }
+    pub(crate) fn new(alloc: Global, planned: Vec<RunTest>) -> AllTests<A>
+        ensures { result ≡ map waiting planned.items }
     {
-        Ok(AllTests {
-            tests: waiting_tests(alloc, planned)?,
+        AllTests {
+            tests: TestStates::new(alloc, planned),
             running: 0,
-        })
+        }
     }
 
     // How many they are.
@@ -78,24 +78,21 @@ impl<A: KeepAttempts> AllTests<A> {
     pub(crate) fn planned(&self, place: usize) -> Option<RunTest>
         ensures { result ≡ option_map (λ test. test.plan) (slice_get self.now place) }
     {
-        let test = self.tests.as_slice().get(place)?;
-        Some(test.planned())
+        self.tests.planned(place)
     }
 
     // How far the test at a place is.
     pub(crate) fn mark(&self, place: usize) -> Option<Mark>
         ensures { result ≡ option_map (λ test. test.mark) (slice_get self.now place) }
     {
-        let test = self.tests.as_slice().get(place)?;
-        Some(test.mark())
+        self.tests.mark(place)
     }
 
     // What is kept of the ended attempts of the test at a place; `None` where there is no test.
     pub(crate) fn attempts(&self, place: usize) -> Option<&A>
         ensures { HasAttempts A.are_of A.records (slice_get self.now place) result }
     {
-        let test = self.tests.as_slice().get(place)?;
-        Some(test.attempts())
+        self.tests.attempts(place)
     }
 
     // An attempt of the test at a place starts. An `Err` changes nothing.
@@ -105,7 +102,9 @@ impl<A: KeepAttempts> AllTests<A> {
             (ChangesAt place (λ test. record test { mark = marks.Running }) self.old self.new) }
         ensures err { OnErr result (self.new ≡ self.old) }
     {
-        start_at(&mut self.tests, alloc, place)?;
+        // They are so many that one more fits.
+        let _count = self.tests.len();
+        self.tests.start(alloc, place)?;
         self.running += 1;
         Ok(())
     }
@@ -128,7 +127,7 @@ impl<A: KeepAttempts> AllTests<A> {
             → result ≡ finishes state test (A.record_of ending) }
         ensures bound { length self.old < 2 ^ 63 }
     {
-        let finished = end_at(&mut self.tests, alloc, place, ending, reason);
+        let finished = self.tests.end(alloc, place, ending, reason);
         self.running -= 1;
         finished
     }
@@ -140,7 +139,7 @@ impl<A: KeepAttempts> AllTests<A> {
         ensures { (test : TestState) → slice_get self.now place ≡ Some test
             → stats.new ≡ with_finished test stats.old }
     {
-        self.tests[place].count_in(stats);
+        self.tests.count_at(place, stats);
     }
 
     // Counts all tests that are finished.
@@ -148,14 +147,14 @@ impl<A: KeepAttempts> AllTests<A> {
         requires uncounted { CountsNoTest stats.old }
         ensures { stats.new ≡ with_tests self.now stats.old }
     {
-        count_each(self.tests.as_slice(), stats);
+        self.tests.count_all(stats);
     }
 
     // The run is stopped: the tests between two attempts are finished.
     pub(crate) fn stop(&mut self, reason: CancelReason)
         ensures { self.new ≡ map (finished_by reason) self.old }
     {
-        finish_between(&mut self.tests, reason);
+        self.tests.stop(reason);
     }
 }
 
@@ -164,92 +163,6 @@ impl AllTests<KeptRecords> {
     pub(crate) fn forget_outputs(&mut self, place: usize)
         ensures { self.new ≡ tests_with (unwritten_at place) self.old }
     {
-        forget_at(&mut self.tests, place);
-    }
-}
-
-// The tests of which no attempt started.
-fn waiting_tests<A: KeepAttempts>(
-    alloc: Global,
-    planned: &[RunTest],
-) -> Result<Vec<TestProgress<A>>, AllocError>
-    ensures { IfOk result (λ tests. tests.items ≡ map waiting (planned.now)) }
-{
-    let mut tests = Vec::with_capacity(alloc, planned.len())?;
-    for plan in planned {
-        tests.push(TestProgress::new(*plan))?;
-    }
-    Ok(tests)
-}
-
-// An attempt of the test at a place starts. An `Err` changes nothing.
-fn start_at<A: KeepAttempts>(
-    tests: &mut Vec<TestProgress<A>>,
-    alloc: Global,
-    place: usize,
-) -> Result<(), AllocError>
-    requires { IsStartable tests.old.items place }
-    ensures ok { OnOk result (ChangesAt place
-        (λ test. record test { mark = marks.Running }) tests.old.items tests.new.items) }
-    ensures err { OnErr result (tests.new.items ≡ tests.old.items) }
-{
-    let test = &mut tests[place];
-    test.start(alloc)
-}
-
-// The attempt of the test at a place that runs ends: whether that finishes the test.
-fn end_at<A: KeepAttempts>(
-    tests: &mut Vec<TestProgress<A>>,
-    alloc: Global,
-    place: usize,
-    ending: A::Ending,
-    reason: Option<CancelReason>,
-) -> bool
-    requires { IsRunningAt tests.old.items place }
-    ensures after { (state : State) → state.reason ≡ reason → ChangesAt place
-        (λ test. after_attempt state test (A.record_of ending)) tests.old.items tests.new.items }
-    ensures finished { (state : State) (test : TestState) → state.reason ≡ reason
-        → slice_get tests.old.items place ≡ Some test
-        → result ≡ finishes state test (A.record_of ending) }
-{
-    let test = &mut tests[place];
-    test.end(alloc, ending, reason)
-}
-
-// Forgets the outputs of the attempts of the test at a place, if there is such a test.
-fn forget_at(tests: &mut Vec<TestProgress<KeptRecords>>, place: usize)
-    ensures { tests.new.items ≡ tests_with (unwritten_at place) tests.old.items }
-{
-    if place >= tests.len() {
-        return;
-    }
-    let test = &mut tests[place];
-    test.forget_outputs();
-}
-
-// The tests between two attempts are finished.
-fn finish_between<A: KeepAttempts>(tests: &mut Vec<TestProgress<A>>, reason: CancelReason)
-    ensures { tests.new.items ≡ map (finished_by reason) tests.old.items }
-{
-    finish_each(tests.as_mut_slice(), reason);
-}
-
-// Each of the tests that is between two attempts is finished.
-fn finish_each<A: KeepAttempts>(tests: &mut [TestProgress<A>], reason: CancelReason)
-    ensures { tests.new ≡ map (finished_by reason) tests.old }
-{
-    for test in tests.iter_mut() {
-        test.finish_between(reason);
-    }
-}
-
-// Counts each of the tests that is finished.
-fn count_each<A: KeepAttempts>(tests: &[TestProgress<A>], stats: &mut RunStats)
-    requires uncounted { CountsNoTest stats.old }
-    requires bound { length tests.now < 2 ^ 63 }
-    ensures { stats.new ≡ with_tests tests.now stats.old }
-{
-    for test in tests {
-        test.count_in(stats);
+        self.tests.forget_outputs(place);
     }
 }

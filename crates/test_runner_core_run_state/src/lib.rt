@@ -13,6 +13,7 @@ mod recorded;
 mod scripts;
 mod start_fault;
 mod test_progress;
+mod test_states;
 
 pub use keep_attempts::KeepAttempts;
 pub use kept_record::KeptRecord;

@@ -75,24 +75,25 @@ impl<A: KeepAttempts> Model for Progress<A> {
 
 impl<A: KeepAttempts> Progress<A> {
     /// The run in which nothing ended, of so many scripts and of these tests, where `skipped`
-    /// others were skipped. Makes the room for each script's status and each test's state. It fails
-    /// only on allocation.
+    /// others were skipped. Makes the room for each script's status; what is kept of the tests is
+    /// made when the first of them starts. It fails only on allocation.
     pub fn new(
         alloc: Global,
         scripts: usize,
-        tests: &[RunTest],
+        tests: Vec<RunTest>,
         limit: MaxFail,
         skipped: usize,
     ) -> Result<Progress<A>, AllocError>
         ensures { IfOk result (λ progress. progress ≡ initial
-            (record { scripts = scripts; tests = tests.now; limit = limit; skipped = skipped })) }
+            (record { scripts = scripts; tests = tests.items; limit = limit; skipped = skipped })) }
     {
+        let initial_run_count = tests.len();
         Ok(Progress {
             alloc,
             scripts: Scripts::new(alloc, scripts)?,
-            tests: AllTests::new(alloc, tests)?,
+            tests: AllTests::new(alloc, tests),
             stats: RunStats {
-                initial_run_count: tests.len(),
+                initial_run_count,
                 setup_scripts_initial_count: scripts,
                 skipped,
                 ..RunStats::default()

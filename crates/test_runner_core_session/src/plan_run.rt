@@ -84,7 +84,7 @@ impl<'a, A: KeepAttempts> PlanRun<'a, A> {
             progress: Progress::new(
                 alloc,
                 plan.scripts.len(),
-                planned.as_slice(),
+                planned,
                 plan.limit,
                 plan.skipped.len(),
             )?,

@@ -7,5 +7,5 @@ use Rattle.test_runner_core_run_state.proofs.all_tests.AllTests+KeptRecords.forg
 pub invariant_of-self : goal.invariant_of-self
 invariant_of-self c =
     c.self.invariant
-    ∙ sym (ap (count_by is_running) c.forget_at.ensures
-    ∙ fold_with (unwritten_at c.args.place) (λ (test : TestState). cond (is_running test) 1 0) (λ place test. refl) c.self.inside.tests.items 0)
+    ∙ sym (ap (count_by is_running) c.forget_outputs.ensures
+    ∙ fold_with (unwritten_at c.args.place) (λ (test : TestState). cond (is_running test) 1 0) (λ place test. refl) c.self.inside.tests 0)

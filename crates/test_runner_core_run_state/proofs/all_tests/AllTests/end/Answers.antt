@@ -7,16 +7,16 @@ use Rattle.test_runner_core_run_state.proofs.all_tests.AllTests.end.Goals as goa
 
 pub overflow_sub-self : goal.overflow_sub-self
 overflow_sub-self g c =
-    let it : IsRunningAt c.self.inside.tests.items c.args.place = subst (λ (tests : List TestState). IsRunningAt tests c.args.place) (sym c.self.view_is) c.requires in
-    let some = runs_some c.self.inside.tests.items c.args.place it.test it.found (ap is_running_mark it.runs) in
+    let it : IsRunningAt c.self.inside.tests c.args.place = subst (λ (tests : List TestState). IsRunningAt tests c.args.place) (sym c.self.view_is) c.requires in
+    let some = runs_some c.self.inside.tests c.args.place it.test it.found (ap is_running_mark it.runs) in
     let count = c.self.invariant in
     omega (arith, some, count)
 
 pub invariant_of-self : goal.invariant_of-self
 invariant_of-self g c =
-    let it : IsRunningAt c.self.inside.tests.items c.args.place = subst (λ (tests : List TestState). IsRunningAt tests c.args.place) (sym c.self.view_is) c.requires in
+    let it : IsRunningAt c.self.inside.tests c.args.place = subst (λ (tests : List TestState). IsRunningAt tests c.args.place) (sym c.self.view_is) c.requires in
     let state = with_reason c.args.reason in
     subst (λ (tests : List TestState). c.self.inside.running - 1 ≡ count_by is_running tests)
-    (sym (c.end_at-finished.ensures.after state refl it.test it.found))
-    (ended_running c.self.inside.tests.items c.args.place c.self.inside.running it.test (after_attempt state it.test (g.A.KeepAttempts.record_of c.args.ending)) it.found (ap is_running_mark it.runs)
+    (sym (c.end-finished.ensures.after state refl it.test it.found))
+    (ended_running c.self.inside.tests c.args.place c.self.inside.running it.test (after_attempt state it.test (g.A.KeepAttempts.record_of c.args.ending)) it.found (ap is_running_mark it.runs)
     (after_idle state it.test (g.A.KeepAttempts.record_of c.args.ending)) c.self.invariant)

@@ -5,4 +5,4 @@ use Rattle.test_runner_core_run_state.proofs.all_tests.AllTests.new.Goals as goa
 
 pub invariant_of-result : goal.invariant_of-result
 invariant_of-result g c =
-    sym (ap (count_by is_running) c.in_ok-waiting_tests.ensures ∙ none_waits is_running (λ plan. refl) c.args.planned.now)
+    sym (ap (count_by is_running) c.new.ensures ∙ none_waits is_running (λ plan. refl) c.args.planned.items)

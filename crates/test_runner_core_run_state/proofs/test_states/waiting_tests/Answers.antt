@@ -3,7 +3,7 @@ use Rattle.std.proofs.lemmas.List.{map_more, take_all}
 use Rattle.std.proofs.lemmas.Result.{IfOk-from_err}
 use Rattle.test_runner_core_run_model.specs.State.{TestState, waiting}
 use Rattle.test_runner_core_run_model.specs.declared.run_test.RunTest.{RunTest}
-use Rattle.test_runner_core_run_state.proofs.all_tests.waiting_tests.Goals as goal
+use Rattle.test_runner_core_run_state.proofs.test_states.waiting_tests.Goals as goal
 
 pub returns-in_err-tests : goal.returns-in_err-tests
 returns-in_err-tests g c = IfOk-from_err c.from_residual.result _ c.from_residual.ensures.0

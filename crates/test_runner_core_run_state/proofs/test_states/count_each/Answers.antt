@@ -1,4 +1,4 @@
-use Rattle.std.proofs.Common.{◌≡◌, ℕ, ◌+◌, ◌<◌, ◌^◌, Bool, true, false, cond, List, [], length, get_or, take, refl, sym, ap, subst, ◌∙◌, arith, count_by}
+use Rattle.std.proofs.Common.{◌≡◌, ℕ, ◌+◌, ◌<◌, ◌^◌, Bool, true, false, cond, List, length, get_or, take, refl, sym, ap, subst, ◌∙◌, arith, count_by}
 use Rattle.std.specs.Int.{from_bool}
 use Rattle.std.proofs.lemmas.List.{length-take-le, take_all}
 use Rattle.std.proofs.lemmas.List.Sums.{count_by-le-length, sum_by_more}
@@ -7,26 +7,8 @@ use Rattle.nextest_run_events_counters.specs.Rows as rows
 use Rattle.nextest_run_events_counters.specs.declared.run_stats.RunStats.{RunStats}
 use Rattle.test_runner_core_run_model.specs.State.{TestState, counts, is_finished}
 use Rattle.test_runner_core_run_state.specs.Counted.{CountsNoTest, with_finished, with_tests}
-use Rattle.test_runner_core_run_state.proofs.all_tests.count_each.Goals as goal
-
--- no test counts nothing
-none_yet : (stats : RunStats) → with_tests [] stats ≡ stats
-none_yet stats =
-    let e0 = same stats.finished_count in
-    let e1 = same stats.passed in
-    let e2 = same stats.passed_slow in
-    let e3 = same stats.passed_timed_out in
-    let e4 = same stats.flaky in
-    let e5 = same stats.failed in
-    let e6 = same stats.failed_slow in
-    let e7 = same stats.failed_timed_out in
-    let e8 = same stats.leaky in
-    let e9 = same stats.leaky_failed in
-    let e10 = same stats.exec_failed in
-    rw (e0, e1, e2, e3, e4, e5, e6, e7, e8, e9, e10) refl
-  where
-    same : (n : ℕ) → n + 0 ≡ n
-    same n = omega arith
+use Rattle.test_runner_core_run_state.proofs.Begun.{none_yet}
+use Rattle.test_runner_core_run_state.proofs.test_states.count_each.Goals as goal
 
 -- tests that are fewer than numbers of the type leave room to count one more
 fits_more : (tests : List TestState) (stats : RunStats) → CountsNoTest stats → length tests + 1 < 2 ^ 64 → CanCountTest (with_tests tests stats)

@@ -2,7 +2,7 @@ use Rattle.std.proofs.Common.{ap, sym, ◌∙◌, arith, slice_set}
 use Rattle.std.proofs.lemmas.List.Edits.{map_over_more}
 use Rattle.test_runner_core_run_model.specs.State.{TestState}
 use Rattle.test_runner_core_run_model.specs.Step.{finished_by}
-use Rattle.test_runner_core_run_state.proofs.all_tests.finish_each.Goals as goal
+use Rattle.test_runner_core_run_state.proofs.test_states.finish_each.Goals as goal
 
 pub loop-test-preserved : goal.loop-test-preserved
 loop-test-preserved g c =

@@ -2,7 +2,7 @@ use Rattle.std.proofs.Common.{◌<◌, ap, ◌∙◌, arith, length, refl, slice
 use Rattle.std.proofs.lemmas.Option.{slice_get_past, slice_get_read}
 use Rattle.test_runner_core_run_model.specs.State.{TestState}
 use Rattle.test_runner_core_run_state.proofs.OtherRecords.{none_unwritten, set_unwritten}
-use Rattle.test_runner_core_run_state.proofs.all_tests.forget_at.Goals as goal
+use Rattle.test_runner_core_run_state.proofs.test_states.forget_at.Goals as goal
 
 pub returns-then-place-len : goal.returns-then-place-len
 returns-then-place-len c =
