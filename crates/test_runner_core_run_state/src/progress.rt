@@ -37,7 +37,8 @@ use test_runner_core_run_model::{
 /// How far a run is. The ended attempts of its tests are kept as `A` keeps them. In a clause it is
 /// the state of the run.
 ///
-/// Each event takes constant time, but the one that stops the run goes over all tests.
+/// Each event takes constant time, but the first start and the event that stops the run go over all
+/// tests.
 pub struct Progress<A: KeepAttempts> {
     alloc: Global,
     scripts: Scripts,
@@ -102,8 +103,9 @@ impl<A: KeepAttempts> Progress<A> {
         })
     }
 
-    /// An attempt of the test at a place starts: reserves the room of its end. An `Err` says why
-    /// it can't start now, or that there was no memory, and leaves everything as it was.
+    /// An attempt of the test at a place starts: reserves the room of its end, and the first time
+    /// that of all tests. An `Err` says why it can't start now, or that there was no memory, and
+    /// leaves everything as it was.
     pub fn start(&mut self, test: usize) -> Result<(), StartFault>
         ensures { Starts self.old test result self.new }
     {

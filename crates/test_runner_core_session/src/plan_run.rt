@@ -61,8 +61,9 @@ impl<'a, A: KeepAttempts> Model for PlanRun<'a, A> {
 }
 
 impl<'a, A: KeepAttempts> PlanRun<'a, A> {
-    /// The run in which nothing ended. Makes the room for each script's status and each test's
-    /// state, and puts the tests' names in order. It fails only on allocation.
+    /// The run in which nothing ended. Makes the room for each script's status, and puts the tests'
+    /// names in order; what is kept of the tests is made when the first of them starts. It fails
+    /// only on allocation.
     pub fn new(alloc: Global, plan: &'a Plan) -> Result<PlanRun<'a, A>, AllocError>
         ensures { IfOk result (λ session. session ≡ session_of plan.now) }
     {
@@ -99,8 +100,9 @@ impl<'a, A: KeepAttempts> PlanRun<'a, A> {
         self.places.sort()
     }
 
-    /// An attempt of a test starts: reserves the room of its end. An `Err` says why it can't
-    /// start now, or that there was no memory, and leaves everything as it was.
+    /// An attempt of a test starts: reserves the room of its end, and the first time that of all
+    /// tests. An `Err` says why it can't start now, or that there was no memory, and leaves
+    /// everything as it was.
     pub fn start(&mut self, test: TestInstanceId<'_>) -> Result<(), StartFault>
         ensures plan { self.new.plan ≡ self.old.plan }
         ensures step { Starts self.old.run (place_in self.old.plan test.entry.binary_id.now
