@@ -51,18 +51,18 @@ tests_count id (name ∷ names) (own ∷ settings) = omega (arith, tests_count i
 -- a test whose turn it isn't is passed
 pub turn_passed : (its : PlanTest → Bool) (all before initial : List PlanTest) (i : ℕ) (test : PlanTest) → i < length all → get_or all i test ≡ test → its test ≡ false
     → before ++ filter its (drop i all) ≡ initial ++ filter its all → before ++ filter its (drop (i + 1) all) ≡ initial ++ filter its all
-turn_passed its all before initial i test within is no so_far =
+turn_passed its all before initial i test within is not_its so_far =
     let rest = filter its (drop (i + 1) all) in
-    ap (λ left. before ++ left) (sym (ap (filter its) (drop_more all i test within ∙ ap (λ one. one ∷ drop (i + 1) all) is) ∙ ap (λ truth. cond truth (test ∷ rest) rest) no)) ∙ so_far
+    ap (λ left. before ++ left) (sym (ap (filter its) (drop_more all i test within ∙ ap (λ one. one ∷ drop (i + 1) all) is) ∙ ap (λ truth. cond truth (test ∷ rest) rest) not_its)) ∙ so_far
 
 -- one whose turn it is is added
 pub turn_taken : (its : PlanTest → Bool) (all before after initial : List PlanTest) (i : ℕ) (test : PlanTest) → i < length all → get_or all i test ≡ test → its test ≡ true → after ≡ before ++ test ∷ []
     → before ++ filter its (drop i all) ≡ initial ++ filter its all → after ++ filter its (drop (i + 1) all) ≡ initial ++ filter its all
-turn_taken its all before after initial i test within is yes adds so_far =
+turn_taken its all before after initial i test within is its_turn adds so_far =
     let rest = filter its (drop (i + 1) all) in
     ap (λ tests. tests ++ rest) adds
     ∙ append_assoc before (test ∷ []) rest
-    ∙ ap (λ left. before ++ left) (sym (ap (filter its) (drop_more all i test within ∙ ap (λ one. one ∷ drop (i + 1) all) is) ∙ ap (λ truth. cond truth (test ∷ rest) rest) yes))
+    ∙ ap (λ left. before ++ left) (sym (ap (filter its) (drop_more all i test within ∙ ap (λ one. one ∷ drop (i + 1) all) is) ∙ ap (λ truth. cond truth (test ∷ rest) rest) its_turn))
     ∙ so_far
 
 -- at the end none is left

@@ -1,4 +1,4 @@
-use Rattle.std.proofs.Common.{List, map, ◌∙◌, rules, sym, subst}
+use Rattle.std.proofs.Common.{List, map, ap, ◌∙◌, rules, sym, subst}
 use Rattle.std.proofs.lemmas.Iterator.Adapters.{YieldsList-from_vec}
 use Rattle.std.proofs.lemmas.Iterator.Consumers.{YieldsList-end}
 use Rattle.std.proofs.lemmas.List.{map-id}
@@ -11,6 +11,7 @@ use Rattle.test_runner_core_listing.specs.Selected.{tests_in}
 use Rattle.test_runner_core_listing.specs.declared.selection.SelectedTests.{SelectedTests}
 use Rattle.test_runner_core_plan.specs.declared.plan.PlanTest.{PlanTest}
 use Rattle.test_runner_core_planning.specs.Plan.{with_settings}
+use Rattle.test_runner_core_planning.specs.Settled.{tests_of_all}
 use Rattle.test_runner_core_planning.proofs.Settled.{settled_more, tests_more}
 use Rattle.test_runner_core_planning.proofs.settled_tests.settled_tests.Goals as goal
 
@@ -34,7 +35,7 @@ returns-clause-tests c = λ of_test has.
     let listed = YieldsList-from_vec {s = c.into_iter-of_binary-iterator.result} c.args.selected.items (search rules) (search rules) in
     let end = YieldsList-end listed c.loop-of_binary.yielded c.loop-of_binary.of_binary-iterator c.loop-of_binary.yielded_by c.next.result c.next.new.self c.in-None.is c.next.ensures.steps in
     subst (λ (them : List SelectedTests). IsPermutation (map (with_settings of_test) (tests_in them)) tests) (sym (map-id c.loop-of_binary.yielded) ∙ end.0)
-    (subst (λ (all : List PlanTest). IsPermutation all tests) (c.loop-of_binary.invariant.tests of_test has) c.in_ok-tests.ensures)
+    (subst (λ (all : List PlanTest). IsPermutation all tests) (ap tests_of_all c.as_slice.ensures.value ∙ c.loop-of_binary.invariant.tests of_test has) c.in_ok-tests.ensures)
 
 pub returns-clause-scripts : goal.returns-clause-scripts
 returns-clause-scripts c =
