@@ -1,2 +1,3 @@
 mod Dotted
 mod Texts
+mod Walks

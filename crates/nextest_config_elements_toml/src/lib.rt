@@ -8,6 +8,7 @@
 mod bad_value;
 mod key_path;
 mod list;
+mod members;
 mod refusing;
 mod table;
 mod value_error;
@@ -15,6 +16,7 @@ mod value_error;
 pub use bad_value::BadValue;
 pub use key_path::KeyPath;
 pub use list::texts_in;
+pub use members::TableMembers;
 pub use refusing::{refused, refused_below};
 pub use table::member;
 pub use value_error::ValueError;

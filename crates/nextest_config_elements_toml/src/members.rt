@@ -1,0 +1,109 @@
+// Members of a table that are asked for in the order of their keys.
+ghost use Rattle.std.specs.Prelude.{◌≡◌, Bool, List, false, option_copied, option_map};
+ghost use Rattle.toml.specs.Data.{get_member};
+ghost use Rattle.toml.specs.View.{members_view, view};
+ghost use Rattle.nextest_config_elements_toml.specs.Walks.{Entry, IsWalk, ahead, is_passed};
+
+use crate::table::member;
+use std::cmp::Ordering;
+use std::collections::btree_map::Iter;
+use std::marker::Model;
+use toml::{Table, Value};
+
+// A walk over the members of a table.
+#[derive(Drop)]
+struct Walk<'a> {
+    // the last key that it is past, if it is past any
+    passed: Option<&'a String>,
+    // where it stands
+    next: Option<(&'a String, &'a Value)>,
+    // what comes then
+    rest: Iter<'a, String, Value>,
+}
+
+/// The members of a table, some of which are asked for: keys that are asked for in their order take
+/// one walk over the table together, and any other takes a look-up. In a clause it is the members.
+#[derive(Drop)]
+pub struct TableMembers<'a> {
+    table: &'a Table,
+    walk: Walk<'a>,
+}
+
+impl<'a> Model for TableMembers<'a> {
+    ghost use Rattle.std.specs.Coded.{codes};
+    ghost use Rattle.std.specs.Prelude.{List};
+    ghost use Rattle.toml.specs.contracts.value.Value as value;
+    ghost use Rattle.nextest_config_elements_toml.specs.Walks.{Entry, IsWalk};
+
+    ghost Value = { List Entry };
+
+    ghost coded = { Prim.hlevel (codes, value.the_row.coded) };
+
+    ghost view = { λ it. it.table.now.entries };
+
+    ghost invariant = { λ it. IsWalk it.table.now.entries it.walk };
+}
+
+impl<'a> TableMembers<'a> {
+    /// The members of a table.
+    pub fn new(table: &'a Table) -> Self
+        ensures { result ≡ table.now.entries }
+    {
+        let mut rest = table.iter();
+        let next = rest.next();
+        TableMembers {
+            table,
+            walk: Walk {
+                passed: None,
+                next,
+                rest,
+            },
+        }
+    }
+
+    /// What stands under a key.
+    pub fn get(&mut self, key: &str) -> Option<&'a Value>
+        ensures found { option_map (λ it. view it.now) result ≡ get_member key.now (members_view self.old) }
+        ensures members { self.new ≡ self.old }
+    {
+        if self.walk.is_past(key) {
+            return member(self.table, key);
+        }
+        self.walk.go_to(key)
+    }
+}
+
+impl<'a> Walk<'a> {
+    // Whether it is past a key.
+    fn is_past(&self, key: &str) -> bool
+        ensures { result ≡ is_passed self.now.passed key.now }
+    {
+        match self.passed {
+            Some(passed) => match key.cmp(passed.as_str()) {
+                Ordering::Less | Ordering::Equal => true,
+                Ordering::Greater => false,
+            },
+            None => false,
+        }
+    }
+
+    // What stands under a key that it isn't past.
+    fn go_to(&mut self, key: &str) -> Option<&'a Value>
+        ensures walk { (all : List Entry) → IsWalk all self.old → IsWalk all self.new }
+        ensures found { (all : List Entry) → IsWalk all self.old
+            → is_passed self.old.passed key.now ≡ false
+            → option_map (λ it. view it.now) result ≡ get_member key.now (members_view all) }
+    {
+        while let Some((name, value)) = self.next {
+            match key.cmp(name.as_str()) {
+                Ordering::Less => return None,
+                Ordering::Equal => return Some(value),
+                Ordering::Greater => {
+                    self.passed = Some(name);
+                    self.next = self.rest.next();
+                }
+            }
+        }
+        None
+    }
+}
