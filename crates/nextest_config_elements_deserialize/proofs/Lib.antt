@@ -1,4 +1,5 @@
 pub mod Backoffs
+pub mod Failing
 pub mod Giving
 pub mod Keys
 pub mod Parts

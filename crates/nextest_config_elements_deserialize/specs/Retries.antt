@@ -1,5 +1,5 @@
 -- How a failing test is tried again: a count alone, or a table.
-use Rattle.std.specs.Prelude.{ℕ, ◌==◌, Bool, false, ◌&&◌, [], ◌∷◌, codes, Option, None, Some, Ok, Err, nat_lt, if◌then◌else◌}
+use Rattle.std.specs.Prelude.{◌==◌, Bool, false, ◌&&◌, [], ◌∷◌, codes, Option, None, Some, Ok, Err, nat_lt, if◌then◌else◌}
 use Rattle.toml.specs.Data.{Data, table, Members}
 use Rattle.nextest_config_elements_values.specs.Retries.{without_delay}
 use Rattle.nextest_config_elements_values.specs.declared.retries.RetryPolicy.{RetryPolicy}

@@ -1,13 +1,13 @@
 // What is read without memory, and how a table's values of it are read.
 ghost use Rattle.std.specs.Prelude.{◌≡◌, Option};
 ghost use Rattle.toml.specs.Data.{Data};
-ghost use Rattle.toml.specs.View.{view, table_view};
+ghost use Rattle.toml.specs.View.{members_view, view};
 ghost use Rattle.nextest_config_elements_toml.specs.Paths.{Gives};
 ghost use Rattle.nextest_config_elements_toml.specs.Reading as read;
 
-use nextest_config_elements_toml::{ValueError, member, refused, refused_below};
+use nextest_config_elements_toml::{TableMembers, ValueError, refused, refused_below};
 use std::alloc::Global;
-use toml::{Table, Value};
+use toml::Value;
 
 /// A value that is read without memory, by a rule: one type may have several rules.
 pub trait ConfigValue<Rule>: Drop {
@@ -40,13 +40,15 @@ pub fn whole<Rule, T: ConfigValue<Rule>>(
 /// was no memory.
 pub fn required<Rule, T: ConfigValue<Rule>>(
     alloc: Global,
-    table: &Table,
+    members: &mut TableMembers<'_>,
     path: &[&str],
     key: &str,
 ) -> Result<T, ValueError>
-    ensures { Gives path.now result (read.required key.now T.meaning (table_view table.now)) }
+    ensures read { Gives path.now result
+        (read.required key.now T.meaning (members_view members.old)) }
+    ensures members { members_view members.new ≡ members_view members.old }
 {
-    match member(table, key) {
+    match members.get(key) {
         None => Err(refused_below(alloc, path, key, None, T::expected())),
         Some(value) => below(alloc, value, path, key),
     }
@@ -56,13 +58,15 @@ pub fn required<Rule, T: ConfigValue<Rule>>(
 /// was no memory.
 pub fn optional<Rule, T: ConfigValue<Rule>>(
     alloc: Global,
-    table: &Table,
+    members: &mut TableMembers<'_>,
     path: &[&str],
     key: &str,
 ) -> Result<Option<T>, ValueError>
-    ensures { Gives path.now result (read.optional key.now T.meaning (table_view table.now)) }
+    ensures read { Gives path.now result
+        (read.optional key.now T.meaning (members_view members.old)) }
+    ensures members { members_view members.new ≡ members_view members.old }
 {
-    match member(table, key) {
+    match members.get(key) {
         None => Ok(None),
         Some(value) => Ok(Some(below(alloc, value, path, key)?)),
     }
@@ -72,15 +76,16 @@ pub fn optional<Rule, T: ConfigValue<Rule>>(
 /// stands isn't one, or where there was no memory.
 pub fn defaulted<Rule, T: ConfigValue<Rule>>(
     alloc: Global,
-    table: &Table,
+    members: &mut TableMembers<'_>,
     path: &[&str],
     key: &str,
     otherwise: T,
 ) -> Result<T, ValueError>
-    ensures { Gives path.now result
-        (read.defaulted key.now T.meaning otherwise (table_view table.now)) }
+    ensures read { Gives path.now result
+        (read.defaulted key.now T.meaning otherwise (members_view members.old)) }
+    ensures members { members_view members.new ≡ members_view members.old }
 {
-    match member(table, key) {
+    match members.get(key) {
         None => Ok(otherwise),
         Some(value) => below(alloc, value, path, key),
     }

@@ -1,6 +1,6 @@
 // When failing tests stop a run.
 ghost use Rattle.std.specs.Prelude.{◌≡◌};
-ghost use Rattle.toml.specs.View.{view, table_view};
+ghost use Rattle.toml.specs.View.{table_view, view};
 ghost use Rattle.nextest_config_elements_toml.specs.Paths.{Gives};
 ghost use Rattle.nextest_config_elements_deserialize.specs.Limits as read;
 
@@ -8,7 +8,7 @@ use crate::config_value::{defaulted, required, whole};
 use crate::limit::Limit;
 use crate::values::Any;
 use nextest_config_elements_choices::{MaxFail, TerminateMode};
-use nextest_config_elements_toml::ValueError;
+use nextest_config_elements_toml::{TableMembers, ValueError};
 use std::alloc::Global;
 use toml::{Table, Value};
 
@@ -34,9 +34,10 @@ pub fn deserialize_fail_fast(
 fn limit_in(alloc: Global, table: &Table, path: &[&str]) -> Result<MaxFail, ValueError>
     ensures { Gives path.now result (read.limit_in (table_view table.now)) }
 {
-    let limit = required::<Any, Limit>(alloc, table, path, "max-fail")?;
+    let mut members = TableMembers::new(table);
+    let limit = required::<Any, Limit>(alloc, &mut members, path, "max-fail")?;
     let wait = TerminateMode::Wait;
-    let terminate = defaulted::<Any, TerminateMode>(alloc, table, path, "terminate", wait)?;
+    let terminate = defaulted::<Any, TerminateMode>(alloc, &mut members, path, "terminate", wait)?;
     Ok(stopped_at(limit, terminate))
 }
 

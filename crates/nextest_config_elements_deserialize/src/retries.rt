@@ -1,13 +1,13 @@
 // How a failing test is tried again.
 ghost use Rattle.std.specs.Prelude.{◌≡◌};
-ghost use Rattle.toml.specs.View.{view, table_view};
+ghost use Rattle.toml.specs.View.{members_view, table_view, view};
 ghost use Rattle.nextest_config_elements_toml.specs.Paths.{Gives};
 ghost use Rattle.nextest_config_elements_deserialize.specs.Retries as read;
 
 use crate::backoff::Backoff;
 use crate::config_value::{defaulted, optional, required, whole};
 use crate::values::{Any, Positive};
-use nextest_config_elements_toml::{ValueError, member, refused_below};
+use nextest_config_elements_toml::{TableMembers, ValueError, refused_below};
 use nextest_config_elements_values::{ConfigDuration, RetryPolicy};
 use std::alloc::Global;
 use toml::{Table, Value};
@@ -43,23 +43,28 @@ fn plain_policy(alloc: Global, value: &Value, path: &[&str]) -> Result<RetryPoli
 fn policy_in(alloc: Global, table: &Table, path: &[&str]) -> Result<RetryPolicy, ValueError>
     ensures { Gives path.now result (read.policy_in (table_view table.now)) }
 {
-    match required::<Any, Backoff>(alloc, table, path, "backoff")? {
-        Backoff::Fixed => fixed_in(alloc, table, path),
-        Backoff::Exponential => exponential_in(alloc, table, path),
+    let mut members = TableMembers::new(table);
+    match required::<Any, Backoff>(alloc, &mut members, path, "backoff")? {
+        Backoff::Fixed => fixed_in(alloc, &mut members, path),
+        Backoff::Exponential => exponential_in(alloc, &mut members, path),
     }
 }
 
 // Each delay is the same.
-fn fixed_in(alloc: Global, table: &Table, path: &[&str]) -> Result<RetryPolicy, ValueError>
-    ensures { Gives path.now result (read.fixed_in (table_view table.now)) }
+fn fixed_in(
+    alloc: Global,
+    members: &mut TableMembers<'_>,
+    path: &[&str],
+) -> Result<RetryPolicy, ValueError>
+    ensures { Gives path.now result (read.fixed_in (members_view members.old)) }
 {
-    let count = required::<Any, u32>(alloc, table, path, "count")?;
+    let count = required::<Any, u32>(alloc, members, path, "count")?;
     let none = ConfigDuration::from_nanos(0);
-    let delay = defaulted::<Any, ConfigDuration>(alloc, table, path, "delay", none)?;
-    let jitter = defaulted::<Any, bool>(alloc, table, path, "jitter", false)?;
+    let delay = defaulted::<Any, ConfigDuration>(alloc, members, path, "delay", none)?;
+    let jitter = defaulted::<Any, bool>(alloc, members, path, "jitter", false)?;
     if varies_nothing(delay, jitter) {
         let expected = "false, or a delay above 0 beside it";
-        return Err(refused_below(alloc, path, "jitter", member(table, "jitter"), expected));
+        return Err(refused_below(alloc, path, "jitter", members.get("jitter"), expected));
     }
     Ok(RetryPolicy::Fixed {
         count,
@@ -76,22 +81,20 @@ fn varies_nothing(delay: ConfigDuration, jitter: bool) -> bool
 }
 
 // Delays double.
-fn exponential_in(alloc: Global, table: &Table, path: &[&str]) -> Result<RetryPolicy, ValueError>
-    ensures { Gives path.now result (read.exponential_in (table_view table.now)) }
+fn exponential_in(
+    alloc: Global,
+    members: &mut TableMembers<'_>,
+    path: &[&str],
+) -> Result<RetryPolicy, ValueError>
+    ensures { Gives path.now result (read.exponential_in (members_view members.old)) }
 {
-    let count = required::<Positive, u32>(alloc, table, path, "count")?;
-    let delay = required::<Positive, ConfigDuration>(alloc, table, path, "delay")?;
-    let jitter = defaulted::<Any, bool>(alloc, table, path, "jitter", false)?;
-    let max_delay = optional::<Any, ConfigDuration>(alloc, table, path, "max-delay")?;
+    let count = required::<Positive, u32>(alloc, members, path, "count")?;
+    let delay = required::<Positive, ConfigDuration>(alloc, members, path, "delay")?;
+    let jitter = defaulted::<Any, bool>(alloc, members, path, "jitter", false)?;
+    let max_delay = optional::<Any, ConfigDuration>(alloc, members, path, "max-delay")?;
     if is_shorter(max_delay, delay) {
         let expected = "a duration not below `delay`";
-        return Err(refused_below(
-            alloc,
-            path,
-            "max-delay",
-            member(table, "max-delay"),
-            expected,
-        ));
+        return Err(refused_below(alloc, path, "max-delay", members.get("max-delay"), expected));
     }
     Ok(RetryPolicy::Exponential {
         count,

@@ -1,15 +1,15 @@
 // How many threads there are.
 ghost use Rattle.std.specs.Prelude.{◌≡◌};
-ghost use Rattle.toml.specs.View.{view, table_view};
+ghost use Rattle.toml.specs.View.{members_view, view};
 ghost use Rattle.nextest_config_elements_toml.specs.Paths.{Gives};
 ghost use Rattle.nextest_config_elements_deserialize.specs.Threads as read;
 
 use crate::config_value::{ConfigValue, required, whole};
 use crate::values::Any;
-use nextest_config_elements_toml::{ValueError, refused};
+use nextest_config_elements_toml::{TableMembers, ValueError, refused};
 use nextest_config_elements_values::{TestGroupConfig, TestThreads, ThreadsRequired};
 use std::alloc::Global;
-use toml::{Table, Value};
+use toml::Value;
 
 /// How many tests run at a time: an integer above 0 is that many, one below 0 is so many less than
 /// there are processors, and `num-cpus` is as many as there are. An `Err` for everything else, 0
@@ -46,17 +46,21 @@ pub fn deserialize_test_group_config(
     ensures { Gives path.now result (read.test_group_config_in (view value.now)) }
 {
     match value {
-        Value::Table(table) => group_in(alloc, table, path),
+        Value::Table(table) => group_in(alloc, &mut TableMembers::new(table), path),
         _ => Err(refused(alloc, path, Some(value), "a table")),
     }
 }
 
 // What a table says.
-fn group_in(alloc: Global, table: &Table, path: &[&str]) -> Result<TestGroupConfig, ValueError>
-    ensures { Gives path.now result (read.group_in (table_view table.now)) }
+fn group_in(
+    alloc: Global,
+    members: &mut TableMembers<'_>,
+    path: &[&str],
+) -> Result<TestGroupConfig, ValueError>
+    ensures { Gives path.now result (read.group_in (members_view members.old)) }
 {
     Ok(TestGroupConfig {
-        max_threads: required::<Any, TestThreads>(alloc, table, path, "max-threads")?,
+        max_threads: required::<Any, TestThreads>(alloc, members, path, "max-threads")?,
     })
 }
 

@@ -1,13 +1,13 @@
 // How long something may take.
 ghost use Rattle.std.specs.Prelude.{◌≡◌};
-ghost use Rattle.toml.specs.View.{view, table_view};
+ghost use Rattle.toml.specs.View.{table_view, view};
 ghost use Rattle.nextest_config_elements_toml.specs.Paths.{Gives};
 ghost use Rattle.nextest_config_elements_deserialize.specs.Timeouts as read;
 
 use crate::config_value::{defaulted, optional, required, whole};
 use crate::values::{Any, Positive};
 use nextest_config_elements_choices::{LeakTimeoutResult, SlowTimeoutResult};
-use nextest_config_elements_toml::ValueError;
+use nextest_config_elements_toml::{TableMembers, ValueError};
 use nextest_config_elements_values::{ConfigDuration, GlobalTimeout, LeakTimeout, SlowTimeout};
 use std::alloc::Global;
 use toml::{Table, Value};
@@ -42,17 +42,24 @@ fn plain_slow(alloc: Global, value: &Value, path: &[&str]) -> Result<SlowTimeout
 fn slow_in(alloc: Global, table: &Table, path: &[&str]) -> Result<SlowTimeout, ValueError>
     ensures { Gives path.now result (read.slow_in (table_view table.now)) }
 {
+    let mut members = TableMembers::new(table);
     let grace_period = defaulted::<Any, ConfigDuration>(
         alloc,
-        table,
+        &mut members,
         path,
         "grace-period",
         SlowTimeout::default_grace_period(),
     )?;
     let fail = SlowTimeoutResult::Fail;
-    let on_timeout = defaulted::<Any, SlowTimeoutResult>(alloc, table, path, "on-timeout", fail)?;
-    let period = required::<Positive, ConfigDuration>(alloc, table, path, "period")?;
-    let terminate_after = optional::<Positive, u64>(alloc, table, path, "terminate-after")?;
+    let on_timeout = defaulted::<Any, SlowTimeoutResult>(
+        alloc,
+        &mut members,
+        path,
+        "on-timeout",
+        fail,
+    )?;
+    let period = required::<Positive, ConfigDuration>(alloc, &mut members, path, "period")?;
+    let terminate_after = optional::<Positive, u64>(alloc, &mut members, path, "terminate-after")?;
     Ok(SlowTimeout {
         period,
         terminate_after,
@@ -91,9 +98,10 @@ fn plain_leak(alloc: Global, value: &Value, path: &[&str]) -> Result<LeakTimeout
 fn leak_in(alloc: Global, table: &Table, path: &[&str]) -> Result<LeakTimeout, ValueError>
     ensures { Gives path.now result (read.leak_in (table_view table.now)) }
 {
-    let period = required::<Any, ConfigDuration>(alloc, table, path, "period")?;
+    let mut members = TableMembers::new(table);
+    let period = required::<Any, ConfigDuration>(alloc, &mut members, path, "period")?;
     let pass = LeakTimeoutResult::Pass;
-    let result = defaulted::<Any, LeakTimeoutResult>(alloc, table, path, "result", pass)?;
+    let result = defaulted::<Any, LeakTimeoutResult>(alloc, &mut members, path, "result", pass)?;
     Ok(LeakTimeout { period, result })
 }
 

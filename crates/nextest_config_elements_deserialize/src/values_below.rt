@@ -1,16 +1,16 @@
 // Values that are read below a path of any length.
 ghost use Rattle.std.specs.Prelude.{◌≡◌, [], ◌∷◌, ◌++◌, None, IfOk, IfErr};
 ghost use Rattle.toml.specs.Data.{get_member};
-ghost use Rattle.toml.specs.View.{table_view, view};
+ghost use Rattle.toml.specs.View.{members_view, view};
 ghost use Rattle.nextest_config_elements_toml.specs.Paths.{Gives, IsExpected, texts};
 ghost use Rattle.nextest_config_elements_toml.specs.Reading.{under};
 ghost use Rattle.nextest_config_elements_deserialize.specs.Below.{IsBelow, defaulted_by, required_by};
 ghost use Rattle.nextest_config_elements_deserialize.specs.Keys.{optional_by};
 
 use crate::deserialize_value::DeserializeValue;
-use nextest_config_elements_toml::{KeyPath, ValueError, member, refused_below};
+use nextest_config_elements_toml::{KeyPath, TableMembers, ValueError, refused_below};
 use std::alloc::{AllocError, Global};
-use toml::{Table, Value};
+use toml::Value;
 
 /// What was refused, told below a key of the table at a path: with these in front of its own path,
 /// and else as it was. Want of memory stays, and may be what comes of another error.
@@ -49,13 +49,15 @@ fn path_below(
 /// The value of a key that may be left out, by the reader of its type, whose `Err` it has.
 pub fn optional_value<T: DeserializeValue>(
     alloc: Global,
-    table: &Table,
+    members: &mut TableMembers<'_>,
     path: &[&str],
     key: &str,
 ) -> Result<Option<T>, ValueError>
-    ensures { Gives path.now result (optional_by key.now T.reading (table_view table.now)) }
+    ensures read { Gives path.now result
+        (optional_by key.now T.reading (members_view members.old)) }
+    ensures members { members_view members.new ≡ members_view members.old }
 {
-    match member(table, key) {
+    match members.get(key) {
         None => Ok(None),
         Some(value) => Ok(Some(value_below(alloc, value, path, key)?)),
     }
@@ -65,16 +67,18 @@ pub fn optional_value<T: DeserializeValue>(
 /// missing, an `Err` says by `expected` what may stand there.
 pub fn required_value<T: DeserializeValue>(
     alloc: Global,
-    table: &Table,
+    members: &mut TableMembers<'_>,
     path: &[&str],
     key: &str,
     expected: &'static str,
 ) -> Result<T, ValueError>
-    ensures read { Gives path.now result (required_by key.now T.reading (table_view table.now)) }
-    ensures missing { get_member key.now (table_view table.now) ≡ None
+    ensures read { Gives path.now result
+        (required_by key.now T.reading (members_view members.old)) }
+    ensures missing { get_member key.now (members_view members.old) ≡ None
         → IfErr result (IsExpected expected.now) }
+    ensures members { members_view members.new ≡ members_view members.old }
 {
-    match member(table, key) {
+    match members.get(key) {
         None => Err(refused_below(alloc, path, key, None, expected)),
         Some(value) => value_below(alloc, value, path, key),
     }
@@ -84,15 +88,16 @@ pub fn required_value<T: DeserializeValue>(
 /// type, whose `Err` it has.
 pub fn defaulted_value<T: DeserializeValue>(
     alloc: Global,
-    table: &Table,
+    members: &mut TableMembers<'_>,
     path: &[&str],
     key: &str,
     otherwise: T,
 ) -> Result<T, ValueError>
-    ensures { Gives path.now result
-        (defaulted_by key.now T.reading otherwise (table_view table.now)) }
+    ensures read { Gives path.now result
+        (defaulted_by key.now T.reading otherwise (members_view members.old)) }
+    ensures members { members_view members.new ≡ members_view members.old }
 {
-    match member(table, key) {
+    match members.get(key) {
         None => Ok(otherwise),
         Some(value) => value_below(alloc, value, path, key),
     }

@@ -1,7 +1,7 @@
 // Members of a table that are asked for in the order of their keys.
 ghost use Rattle.std.specs.Prelude.{◌≡◌, Bool, List, false, option_copied, option_map};
 ghost use Rattle.toml.specs.Data.{get_member};
-ghost use Rattle.toml.specs.View.{members_view, view};
+ghost use Rattle.toml.specs.View.{members_view, table_view, view};
 ghost use Rattle.nextest_config_elements_toml.specs.Walks.{Entry, IsWalk, ahead, is_passed};
 
 use crate::table::member;
@@ -47,7 +47,7 @@ impl<'a> Model for TableMembers<'a> {
 impl<'a> TableMembers<'a> {
     /// The members of a table.
     pub fn new(table: &'a Table) -> Self
-        ensures { result ≡ table.now.entries }
+        ensures { members_view result ≡ table_view table.now }
     {
         let mut rest = table.iter();
         let next = rest.next();
@@ -64,7 +64,7 @@ impl<'a> TableMembers<'a> {
     /// What stands under a key.
     pub fn get(&mut self, key: &str) -> Option<&'a Value>
         ensures found { option_map (λ it. view it.now) result ≡ get_member key.now (members_view self.old) }
-        ensures members { self.new ≡ self.old }
+        ensures members { members_view self.new ≡ members_view self.old }
     {
         if self.walk.is_past(key) {
             return member(self.table, key);
