@@ -4,9 +4,10 @@ use Rattle.std.proofs.lemmas.Result.{err_from_is_err_and}
 use Rattle.std.specs.Result.{IsErrAnd}
 use denote.Ref.{Bor}
 use Rattle.nextest_config_elements_toml.specs.Paths.{Gives, texts}
-use Rattle.nextest_config_elements_toml.specs.Reading.{Reading, ◌>>=◌}
+use Rattle.nextest_config_elements_toml.specs.Reading.{Path, Reading, ◌>>=◌}
 use Rattle.nextest_config_elements_toml.specs.declared.value_error.ValueError.{ValueError}
 use Rattle.nextest_config_elements_toml.specs.declared.value_error.ValueError.TheVariants as error
+use Rattle.nextest_config_elements_deserialize.specs.Paths.{GivesAt}
 
 fails_with : {A B : Type 0} (path : List (Bor (List ℕ))) (told : ValueError) (reading : Reading A) (next : A → Reading B) → Gives path (Err told) reading → Gives path (Err told) (reading >>= next)
 fails_with path (error.Refused bad) (Ok x) next gives = absurd (cc)
@@ -19,3 +20,25 @@ pub fails_on : {A B : Type 0} (path : List (Bor (List ℕ))) (told : ValueError)
 fails_on path told result reading next gives is =
     let error = err_from_is_err_and result is in
     subst (λ it. Gives path it (reading >>= next)) (sym error.1) (subst (λ it. Gives path (Err it) (reading >>= next)) (sym error.2) (fails_with path told reading next gives))
+
+-- the same, where both know where they read
+pub fails_within : {A B : Type 0} (path : Path) (told : ValueError) (result : Result B ValueError) (reading : Reading A) (next : A → Reading B)
+    → GivesAt path (Err told) reading → IsErrAnd result (λ y. y ≡ told) → GivesAt path result (reading >>= next)
+fails_within path told result reading next gives is =
+    let error = err_from_is_err_and result is in
+    subst (λ it. GivesAt path it (reading >>= next)) (sym error.1)
+    (subst (λ it. GivesAt path (Err it) (reading >>= next)) (sym error.2) (known path told reading next gives))
+  where
+    known : {A B : Type 0} (path : Path) (told : ValueError) (reading : Reading A) (next : A → Reading B) → GivesAt path (Err told) reading → GivesAt path (Err told) (reading >>= next)
+    known path (error.Refused bad) (Ok x) next gives = absurd (cc)
+    known path (error.Refused bad) (Err place) next gives = let same : path ++ place ≡ bad.path.keys = cc in ap Err same
+    known path error.OutOfMemory reading next gives = tt
+
+-- the same, where the one that refused is handed where it reads
+pub fails_at : {A B : Type 0} (path : List (Bor (List ℕ))) (told : ValueError) (result : Result B ValueError) (reading : Reading A) (next : A → Reading B)
+    → Gives path (Err told) reading → IsErrAnd result (λ y. y ≡ told) → GivesAt (texts path) result (reading >>= next)
+fails_at path told result reading next gives is = fails_within (texts path) told result reading next (known path told reading gives) is
+  where
+    known : {A : Type 0} (path : List (Bor (List ℕ))) (told : ValueError) (reading : Reading A) → Gives path (Err told) reading → GivesAt (texts path) (Err told) reading
+    known path (error.Refused bad) reading gives = gives
+    known path error.OutOfMemory reading gives = gives
