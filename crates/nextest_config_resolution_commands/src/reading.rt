@@ -9,7 +9,7 @@ use crate::script_command::{ScriptCommand, ScriptCommandEnvMap, ScriptCommandRel
 use nextest_config_elements_deserialize::{
     Any, ConfigValue, DeserializeValue, defaulted, defaulted_value, required_value,
 };
-use nextest_config_elements_toml::ValueError;
+use nextest_config_elements_toml::{TableMembers, ValueError};
 use nextest_text::Listing;
 use std::alloc::Global;
 use toml::{Table, Value};
@@ -52,13 +52,14 @@ impl DeserializeValue for ScriptCommand {
 fn command_table(alloc: Global, table: &Table, path: &[&str]) -> Result<ScriptCommand, ValueError>
     ensures { Gives path.now result (read.command_table (table_view table.now)) }
 {
+    let mut members = TableMembers::new(table);
     let expected = "a command: a string or an array of strings";
-    let line: CommandLine = required_value(alloc, table, path, "command-line", expected)?;
-    let env = defaulted_value(alloc, table, path, "env", no_variables(alloc))?;
+    let line: CommandLine = required_value(alloc, &mut members, path, "command-line", expected)?;
+    let env = defaulted_value(alloc, &mut members, path, "env", no_variables(alloc))?;
     let none = ScriptCommandRelativeTo::None;
     let relative_to = defaulted::<Any, ScriptCommandRelativeTo>(
         alloc,
-        table,
+        &mut members,
         path,
         "relative-to",
         none,

@@ -6,7 +6,7 @@ ghost use Rattle.nextest_config_resolution_values.specs.Paths.{bench_path};
 ghost use Rattle.nextest_config_resolution_values.specs.Profile.{bench_in};
 
 use nextest_config_elements_deserialize::optional_value;
-use nextest_config_elements_toml::{ValueError, refused};
+use nextest_config_elements_toml::{TableMembers, ValueError, refused};
 use nextest_config_elements_values::{GlobalTimeout, SlowTimeout};
 use std::alloc::Global;
 use toml::{Table, Value};
@@ -35,9 +35,15 @@ pub(crate) fn bench_of(alloc: Global, name: &str, value: &Value) -> Result<Profi
 fn bench_in(alloc: Global, name: &str, table: &Table) -> Result<ProfileBench, ValueError>
     ensures { GivesAt (bench_path name.now) result (bench_in (table_view table.now)) }
 {
+    let mut members = TableMembers::new(table);
     let path = ["profile", name, "bench"];
-    let global_timeout = optional_value::<GlobalTimeout>(alloc, table, &path, "global-timeout")?;
-    let slow_timeout = optional_value::<SlowTimeout>(alloc, table, &path, "slow-timeout")?;
+    let global_timeout = optional_value::<GlobalTimeout>(
+        alloc,
+        &mut members,
+        &path,
+        "global-timeout",
+    )?;
+    let slow_timeout = optional_value::<SlowTimeout>(alloc, &mut members, &path, "slow-timeout")?;
     Ok(ProfileBench {
         global_timeout,
         slow_timeout,

@@ -4,7 +4,7 @@ ghost use Rattle.nextest_config_elements_toml.specs.Paths.{Gives};
 ghost use Rattle.nextest_config_resolution_values.specs.Profile.{junit_in};
 
 use nextest_config_elements_deserialize::{Any, optional, optional_text};
-use nextest_config_elements_toml::ValueError;
+use nextest_config_elements_toml::{TableMembers, ValueError};
 use nextest_config_elements_values::{JunitFlakyFailStatus, ReportSkipPolicy};
 use nextest_text::Text;
 use std::alloc::Global;
@@ -49,17 +49,33 @@ pub(crate) fn junit_in(
 ) -> Result<ProfileJunit, ValueError>
     ensures { Gives path.now result (junit_in (table_view table.now)) }
 {
+    let mut members = TableMembers::new(table);
     let flaky_fail_status = optional::<Any, JunitFlakyFailStatus>(
         alloc,
-        table,
+        &mut members,
         path,
         "flaky-fail-status",
     )?;
-    let file = optional_text(alloc, table, path, "path")?;
-    let report_name = optional_text(alloc, table, path, "report-name")?;
-    let report_skipped = optional::<Any, ReportSkipPolicy>(alloc, table, path, "report-skipped")?;
-    let store_failure_output = optional::<Any, bool>(alloc, table, path, "store-failure-output")?;
-    let store_success_output = optional::<Any, bool>(alloc, table, path, "store-success-output")?;
+    let file = optional_text(alloc, &mut members, path, "path")?;
+    let report_name = optional_text(alloc, &mut members, path, "report-name")?;
+    let report_skipped = optional::<Any, ReportSkipPolicy>(
+        alloc,
+        &mut members,
+        path,
+        "report-skipped",
+    )?;
+    let store_failure_output = optional::<Any, bool>(
+        alloc,
+        &mut members,
+        path,
+        "store-failure-output",
+    )?;
+    let store_success_output = optional::<Any, bool>(
+        alloc,
+        &mut members,
+        path,
+        "store-success-output",
+    )?;
     Ok(ProfileJunit {
         flaky_fail_status,
         path: file,

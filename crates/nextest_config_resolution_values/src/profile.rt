@@ -1,6 +1,6 @@
 // What a profile says.
 ghost use Rattle.std.specs.Prelude.{◌≡◌, codes};
-ghost use Rattle.toml.specs.View.{table_view, view};
+ghost use Rattle.toml.specs.View.{members_view, table_view, view};
 ghost use Rattle.nextest_config_elements_deserialize.specs.Keys.{optional_by, table_by};
 ghost use Rattle.nextest_config_elements_deserialize.specs.Paths.{GivesAt, profile_path};
 ghost use Rattle.nextest_config_resolution_values.specs.Profile.{bench_in, config_of, profile_in, profile_of};
@@ -14,7 +14,7 @@ use crate::spans::{
     flaky_to_inherits, leak_to_slow, status_to_threads,
 };
 use nextest_config_elements_deserialize::optional_value;
-use nextest_config_elements_toml::{ValueError, member, refused};
+use nextest_config_elements_toml::{TableMembers, ValueError, refused};
 use std::alloc::Global;
 use toml::{Table, Value};
 
@@ -30,12 +30,13 @@ pub fn deserialize_profile(
 ) -> Result<ProfileConfig, ValueError>
     ensures { GivesAt (profile_path name.now) result (profile_in (table_view table.now)) }
 {
-    let bench = bench_in(alloc, name, table)?;
-    let first = default_to_final(alloc, name, table)?;
-    let second = flaky_to_inherits(alloc, name, table)?;
-    let junit = optional_value::<ProfileJunit>(alloc, table, &["profile", name], "junit")?;
-    let third = leak_to_slow(alloc, name, table)?;
-    let last = status_to_threads(alloc, name, table)?;
+    let mut members = TableMembers::new(table);
+    let bench = bench_in(alloc, name, &mut members)?;
+    let first = default_to_final(alloc, name, &mut members)?;
+    let second = flaky_to_inherits(alloc, name, &mut members)?;
+    let junit = optional_value::<ProfileJunit>(alloc, &mut members, &["profile", name], "junit")?;
+    let third = leak_to_slow(alloc, name, &mut members)?;
+    let last = status_to_threads(alloc, name, &mut members)?;
     Ok(config_of(bench, first, second, junit, third, last))
 }
 
@@ -55,11 +56,16 @@ pub fn deserialize_profile_value(
 }
 
 // What a profile says of benchmarks.
-fn bench_in(alloc: Global, name: &str, table: &Table) -> Result<Option<ProfileBench>, ValueError>
-    ensures { GivesAt (profile_path name.now) result
-        (optional_by (codes "bench") (table_by bench_in) (table_view table.now)) }
+fn bench_in(
+    alloc: Global,
+    name: &str,
+    members: &mut TableMembers<'_>,
+) -> Result<Option<ProfileBench>, ValueError>
+    ensures read { GivesAt (profile_path name.now) result
+        (optional_by (codes "bench") (table_by bench_in) (members_view members.old)) }
+    ensures members { members_view members.new ≡ members_view members.old }
 {
-    match member(table, "bench") {
+    match members.get("bench") {
         None => Ok(None),
         Some(value) => Ok(Some(bench_of(alloc, name, value)?)),
     }

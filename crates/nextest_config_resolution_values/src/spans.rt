@@ -1,5 +1,6 @@
 // The values of a profile's keys that stand side by side.
-ghost use Rattle.toml.specs.View.{table_view};
+ghost use Rattle.std.specs.Prelude.{◌≡◌};
+ghost use Rattle.toml.specs.View.{members_view};
 ghost use Rattle.nextest_config_elements_deserialize.specs.Paths.{GivesAt, profile_path};
 ghost use Rattle.nextest_config_resolution_values.specs.Profile as read;
 
@@ -7,13 +8,12 @@ use nextest_config_elements_choices::{
     FinalStatusLevel, FlakyResult, MaxFail, StatusLevel, TestOutputDisplay,
 };
 use nextest_config_elements_deserialize::{Any, optional, optional_text, optional_value};
-use nextest_config_elements_toml::ValueError;
+use nextest_config_elements_toml::{TableMembers, ValueError};
 use nextest_config_elements_values::{
     GlobalTimeout, LeakTimeout, RetryPolicy, SlowTimeout, TestThreads, ThreadsRequired,
 };
 use nextest_text::{Listing, Text};
 use std::alloc::Global;
-use toml::Table;
 
 // From `default-filter` to `final-status-level`.
 #[derive(Drop)]
@@ -55,18 +55,24 @@ pub(crate) struct StatusToThreads {
 pub(crate) fn default_to_final(
     alloc: Global,
     name: &str,
-    table: &Table,
+    members: &mut TableMembers<'_>,
 ) -> Result<DefaultToFinal, ValueError>
-    ensures { GivesAt (profile_path name.now) result
-        (read.default_to_final (table_view table.now)) }
+    ensures read { GivesAt (profile_path name.now) result
+        (read.default_to_final (members_view members.old)) }
+    ensures members { members_view members.new ≡ members_view members.old }
 {
     let path = ["profile", name];
-    let default_filter = optional_text(alloc, table, &path, "default-filter")?;
-    let fail_fast = optional_value::<MaxFail>(alloc, table, &path, "fail-fast")?;
-    let failure_output = optional::<Any, TestOutputDisplay>(alloc, table, &path, "failure-output")?;
+    let default_filter = optional_text(alloc, members, &path, "default-filter")?;
+    let fail_fast = optional_value::<MaxFail>(alloc, members, &path, "fail-fast")?;
+    let failure_output = optional::<Any, TestOutputDisplay>(
+        alloc,
+        members,
+        &path,
+        "failure-output",
+    )?;
     let final_status_level = optional::<Any, FinalStatusLevel>(
         alloc,
-        table,
+        members,
         &path,
         "final-status-level",
     )?;
@@ -83,15 +89,16 @@ pub(crate) fn default_to_final(
 pub(crate) fn flaky_to_inherits(
     alloc: Global,
     name: &str,
-    table: &Table,
+    members: &mut TableMembers<'_>,
 ) -> Result<FlakyToInherits, ValueError>
-    ensures { GivesAt (profile_path name.now) result
-        (read.flaky_to_inherits (table_view table.now)) }
+    ensures read { GivesAt (profile_path name.now) result
+        (read.flaky_to_inherits (members_view members.old)) }
+    ensures members { members_view members.new ≡ members_view members.old }
 {
     let path = ["profile", name];
-    let flaky_result = optional::<Any, FlakyResult>(alloc, table, &path, "flaky-result")?;
-    let global_timeout = optional_value::<GlobalTimeout>(alloc, table, &path, "global-timeout")?;
-    let inherits = optional_text(alloc, table, &path, "inherits")?;
+    let flaky_result = optional::<Any, FlakyResult>(alloc, members, &path, "flaky-result")?;
+    let global_timeout = optional_value::<GlobalTimeout>(alloc, members, &path, "global-timeout")?;
+    let inherits = optional_text(alloc, members, &path, "inherits")?;
     Ok(FlakyToInherits {
         flaky_result,
         global_timeout,
@@ -104,15 +111,17 @@ pub(crate) fn flaky_to_inherits(
 pub(crate) fn leak_to_slow(
     alloc: Global,
     name: &str,
-    table: &Table,
+    members: &mut TableMembers<'_>,
 ) -> Result<LeakToSlow, ValueError>
-    ensures { GivesAt (profile_path name.now) result (read.leak_to_slow (table_view table.now)) }
+    ensures read { GivesAt (profile_path name.now) result
+        (read.leak_to_slow (members_view members.old)) }
+    ensures members { members_view members.new ≡ members_view members.old }
 {
     let path = ["profile", name];
-    let leak_timeout = optional_value::<LeakTimeout>(alloc, table, &path, "leak-timeout")?;
-    let retries = optional_value::<RetryPolicy>(alloc, table, &path, "retries")?;
-    let run_extra_args = optional_value::<Listing<Text>>(alloc, table, &path, "run-extra-args")?;
-    let slow_timeout = optional_value::<SlowTimeout>(alloc, table, &path, "slow-timeout")?;
+    let leak_timeout = optional_value::<LeakTimeout>(alloc, members, &path, "leak-timeout")?;
+    let retries = optional_value::<RetryPolicy>(alloc, members, &path, "retries")?;
+    let run_extra_args = optional_value::<Listing<Text>>(alloc, members, &path, "run-extra-args")?;
+    let slow_timeout = optional_value::<SlowTimeout>(alloc, members, &path, "slow-timeout")?;
     Ok(LeakToSlow {
         leak_timeout,
         retries,
@@ -126,18 +135,24 @@ pub(crate) fn leak_to_slow(
 pub(crate) fn status_to_threads(
     alloc: Global,
     name: &str,
-    table: &Table,
+    members: &mut TableMembers<'_>,
 ) -> Result<StatusToThreads, ValueError>
-    ensures { GivesAt (profile_path name.now) result
-        (read.status_to_threads (table_view table.now)) }
+    ensures read { GivesAt (profile_path name.now) result
+        (read.status_to_threads (members_view members.old)) }
+    ensures members { members_view members.new ≡ members_view members.old }
 {
     let path = ["profile", name];
-    let status_level = optional::<Any, StatusLevel>(alloc, table, &path, "status-level")?;
-    let success_output = optional::<Any, TestOutputDisplay>(alloc, table, &path, "success-output")?;
-    let test_threads = optional::<Any, TestThreads>(alloc, table, &path, "test-threads")?;
+    let status_level = optional::<Any, StatusLevel>(alloc, members, &path, "status-level")?;
+    let success_output = optional::<Any, TestOutputDisplay>(
+        alloc,
+        members,
+        &path,
+        "success-output",
+    )?;
+    let test_threads = optional::<Any, TestThreads>(alloc, members, &path, "test-threads")?;
     let threads_required = optional::<Any, ThreadsRequired>(
         alloc,
-        table,
+        members,
         &path,
         "threads-required",
     )?;

@@ -5,7 +5,7 @@ ghost use Rattle.nextest_config_elements_deserialize.specs.Paths.{GivesAt};
 ghost use Rattle.nextest_config_resolution_values.specs.File.{store_dir_of};
 
 use nextest_config_elements_deserialize::optional_text;
-use nextest_config_elements_toml::{ValueError, refused};
+use nextest_config_elements_toml::{TableMembers, ValueError, refused};
 use nextest_text::Text;
 use std::alloc::Global;
 use toml::Value;
@@ -22,7 +22,9 @@ pub fn deserialize_store_dir(
 {
     match store {
         None => Ok(None),
-        Some(Value::Table(table)) => optional_text(alloc, table, &["store"], "dir"),
+        Some(Value::Table(table)) => {
+            optional_text(alloc, &mut TableMembers::new(table), &["store"], "dir")
+        }
         Some(other) => Err(refused(alloc, &["store"], Some(other), "a table")),
     }
 }
