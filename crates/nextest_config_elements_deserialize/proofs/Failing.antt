@@ -33,12 +33,3 @@ fails_within path told result reading next gives is =
     known path (error.Refused bad) (Ok x) next gives = absurd (cc)
     known path (error.Refused bad) (Err place) next gives = let same : path ++ place ≡ bad.path.keys = cc in ap Err same
     known path error.OutOfMemory reading next gives = tt
-
--- the same, where the one that refused is handed where it reads
-pub fails_at : {A B : Type 0} (path : List (Bor (List ℕ))) (told : ValueError) (result : Result B ValueError) (reading : Reading A) (next : A → Reading B)
-    → Gives path (Err told) reading → IsErrAnd result (λ y. y ≡ told) → GivesAt (texts path) result (reading >>= next)
-fails_at path told result reading next gives is = fails_within (texts path) told result reading next (known path told reading gives) is
-  where
-    known : {A : Type 0} (path : List (Bor (List ℕ))) (told : ValueError) (reading : Reading A) → Gives path (Err told) reading → GivesAt (texts path) (Err told) reading
-    known path (error.Refused bad) reading gives = gives
-    known path error.OutOfMemory reading gives = gives

@@ -1,8 +1,7 @@
 -- Which tables are profiles, key by key and in no order.
-use Rattle.std.specs.Prelude.{◌≡◌, ℕ, List, codes, Option, None, Some, Ok}
-use Rattle.toml.specs.Data.{Data, table, Members, as_str, get_member}
-use Rattle.nextest_config_elements_toml.specs.Reading.{Reading}
-use Rattle.nextest_config_elements_deserialize.specs.Accepted.{IsLeftOut, MayHave, IsRetryPolicy, IsSlowTimeout}
+use Rattle.std.specs.Prelude.{codes}
+use Rattle.toml.specs.Data.{Members, as_str}
+use Rattle.nextest_config_elements_deserialize.specs.Accepted.{MayHave, IsRetryPolicy, IsSlowTimeout}
 use Rattle.nextest_config_elements_deserialize.specs.Junit.{report_skip_policy, flaky_fail_status}
 use Rattle.nextest_config_elements_deserialize.specs.Limits.{fail_fast_in}
 use Rattle.nextest_config_elements_deserialize.specs.Threads.{test_threads, threads_required}

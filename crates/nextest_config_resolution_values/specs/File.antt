@@ -1,5 +1,5 @@
 -- The profiles and the store of a configuration.
-use Rattle.std.specs.Prelude.{ℕ, List, [], ◌∷◌, codes, Option, None, Some, Ok, Err}
+use Rattle.std.specs.Prelude.{ℕ, List, [], ◌∷◌, codes, Option, None, Some, Ok}
 use Rattle.toml.specs.Data.{Data, Members, no_members, member, as_str, get_member}
 use Rattle.nextest_config_elements_toml.specs.Reading.{Reading, ◌>>=◌, optional, under}
 use Rattle.nextest_config_elements_deserialize.specs.Keys.{table_by}

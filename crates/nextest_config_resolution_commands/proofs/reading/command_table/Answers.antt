@@ -8,8 +8,14 @@ use Rattle.nextest_config_resolution_commands.proofs.reading.command_table.Goals
 
 pub returns-in_err-relative_to : goal.returns-in_err-relative_to
 returns-in_err-relative_to c =
-    rw (← c.new-members.ensures, c.in_ok-line.ensures.read, ← c.required_value.ensures.members, ← c.no_variables.ensures, c.in_ok-env.ensures.read,
-      ← c.defaulted_value.ensures.members)
+    rw (
+      ← c.new-members.ensures,
+      c.in_ok-line.ensures.read,
+      ← c.required_value.ensures.members,
+      ← c.no_variables.ensures,
+      c.in_ok-env.ensures.read,
+      ← c.defaulted_value.ensures.members,
+    )
     (fails_on c.args.path.now c.in_err-relative_to.field-0.0 c.from_residual-in_err-relative_to.result
-      (defaulted (codes "relative-to") relative_to place.None (members_view c.defaulted_value.new.members)) _
-      c.in_err-relative_to.ensures.read c.from_residual-in_err-relative_to.ensures.1)
+    (defaulted (codes "relative-to") relative_to place.None (members_view c.defaulted_value.new.members)) _
+    c.in_err-relative_to.ensures.read c.from_residual-in_err-relative_to.ensures.1)

@@ -10,4 +10,4 @@ unfolding Rattle.nextest_config_resolution_values.specs.Profile.junit_in
 returns-in_err-report_name c =
     rw (← c.new-members.ensures, c.in_ok-flaky_fail_status.ensures.read, ← c.optional.ensures.members, c.in_ok-file.ensures.read, ← c.optional_text.ensures.members)
     (fails_on c.args.path.now c.in_err-report_name.field-0.0 c.from_residual-in_err-report_name.result
-      (optional (codes "report-name") as_str (members_view c.optional_text.new.members)) _ c.in_err-report_name.ensures.read c.from_residual-in_err-report_name.ensures.1)
+    (optional (codes "report-name") as_str (members_view c.optional_text.new.members)) _ c.in_err-report_name.ensures.read c.from_residual-in_err-report_name.ensures.1)
