@@ -1,12 +1,12 @@
 // What holds of benchmarks.
-ghost use Rattle.std.specs.Prelude.{option_map};
-ghost use Rattle.toml.specs.View.{table_view, view};
+ghost use Rattle.std.specs.Prelude.{◌≡◌, option_map};
+ghost use Rattle.toml.specs.View.{members_view, table_view, view};
 ghost use Rattle.nextest_config_resolution_overrides.specs.Overrides.{bench_at, bench_in, bench_of};
 ghost use Rattle.nextest_config_resolution_overrides.specs.Paths.{bench_path, override_path};
 ghost use Rattle.nextest_config_elements_deserialize.specs.Paths.{GivesAt};
 
 use nextest_config_elements_deserialize::deserialize_slow_timeout;
-use nextest_config_elements_toml::{ValueError, member, refused};
+use nextest_config_elements_toml::{TableMembers, ValueError, member, refused};
 use nextest_config_elements_values::SlowTimeout;
 use std::alloc::Global;
 use toml::{Table, Value};
@@ -16,11 +16,13 @@ pub(crate) fn bench_at(
     alloc: Global,
     name: &str,
     place: &str,
-    table: &Table,
+    members: &mut TableMembers<'_>,
 ) -> Result<Option<SlowTimeout>, ValueError>
-    ensures { GivesAt (override_path name.now place.now) result (bench_at (table_view table.now)) }
+    ensures read { GivesAt (override_path name.now place.now) result
+        (bench_at (members_view members.old)) }
+    ensures members { members_view members.new ≡ members_view members.old }
 {
-    bench_of(alloc, name, place, member(table, "bench"))
+    bench_of(alloc, name, place, members.get("bench"))
 }
 
 // A table, or nothing.

@@ -4,7 +4,7 @@ ghost use Rattle.nextest_config_elements_toml.specs.Paths.{Gives};
 ghost use Rattle.nextest_config_resolution_overrides.specs.Overrides.{junit_in};
 
 use nextest_config_elements_deserialize::{Any, optional};
-use nextest_config_elements_toml::ValueError;
+use nextest_config_elements_toml::{TableMembers, ValueError};
 use nextest_config_elements_values::{JunitFlakyFailStatus, ReportSkipPolicy};
 use std::alloc::Global;
 use toml::Table;
@@ -32,15 +32,31 @@ pub(crate) fn junit_in(
 ) -> Result<OverrideJunit, ValueError>
     ensures { Gives path.now result (junit_in (table_view table.now)) }
 {
+    let mut members = TableMembers::new(table);
     let flaky_fail_status = optional::<Any, JunitFlakyFailStatus>(
         alloc,
-        table,
+        &mut members,
         path,
         "flaky-fail-status",
     )?;
-    let report_skipped = optional::<Any, ReportSkipPolicy>(alloc, table, path, "report-skipped")?;
-    let store_failure_output = optional::<Any, bool>(alloc, table, path, "store-failure-output")?;
-    let store_success_output = optional::<Any, bool>(alloc, table, path, "store-success-output")?;
+    let report_skipped = optional::<Any, ReportSkipPolicy>(
+        alloc,
+        &mut members,
+        path,
+        "report-skipped",
+    )?;
+    let store_failure_output = optional::<Any, bool>(
+        alloc,
+        &mut members,
+        path,
+        "store-failure-output",
+    )?;
+    let store_success_output = optional::<Any, bool>(
+        alloc,
+        &mut members,
+        path,
+        "store-success-output",
+    )?;
     Ok(OverrideJunit {
         flaky_fail_status,
         report_skipped,

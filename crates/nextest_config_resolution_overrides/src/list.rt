@@ -11,7 +11,7 @@ use crate::override_config::OverrideConfig;
 use crate::spans::{
     ArgsToThreads, BenchToFlaky, JunitToRetries, args_to_threads, bench_to_flaky, junit_to_retries,
 };
-use nextest_config_elements_toml::{ValueError, member, refused};
+use nextest_config_elements_toml::{TableMembers, ValueError, member, refused};
 use nextest_text::Listing;
 use std::alloc::Global;
 use toml::{Table, Value};
@@ -109,9 +109,10 @@ fn override_in(
     ensures { GivesAt (override_path name.now place.now) result
         (override_in (table_view table.now)) }
 {
-    let first = bench_to_flaky(alloc, name, place, table)?;
-    let second = junit_to_retries(alloc, name, place, table)?;
-    let last = args_to_threads(alloc, name, place, table)?;
+    let mut members = TableMembers::new(table);
+    let first = bench_to_flaky(alloc, name, place, &mut members)?;
+    let second = junit_to_retries(alloc, name, place, &mut members)?;
+    let last = args_to_threads(alloc, name, place, &mut members)?;
     Ok(config_of(first, second, last))
 }
 

@@ -4,7 +4,7 @@ ghost use Rattle.nextest_config_elements_toml.specs.Paths.{Gives};
 ghost use Rattle.nextest_config_resolution_overrides.specs.Overrides.{platforms_in, platforms_of};
 
 use nextest_config_elements_deserialize::optional_text;
-use nextest_config_elements_toml::{ValueError, refused};
+use nextest_config_elements_toml::{TableMembers, ValueError, refused};
 use nextest_text::Text;
 use std::alloc::Global;
 use toml::{Table, Value};
@@ -52,7 +52,8 @@ fn platforms_in(
 ) -> Result<OverridePlatforms, ValueError>
     ensures { Gives path.now result (platforms_in (table_view table.now)) }
 {
-    let host = optional_text(alloc, table, path, "host")?;
-    let target = optional_text(alloc, table, path, "target")?;
+    let mut members = TableMembers::new(table);
+    let host = optional_text(alloc, &mut members, path, "host")?;
+    let target = optional_text(alloc, &mut members, path, "target")?;
     Ok(OverridePlatforms { host, target })
 }

@@ -1,5 +1,6 @@
 // The values of an override's keys that stand side by side.
-ghost use Rattle.toml.specs.View.{table_view};
+ghost use Rattle.std.specs.Prelude.{◌≡◌};
+ghost use Rattle.toml.specs.View.{members_view};
 ghost use Rattle.nextest_config_resolution_overrides.specs.Overrides as read;
 ghost use Rattle.nextest_config_resolution_overrides.specs.Paths.{override_path};
 ghost use Rattle.nextest_config_elements_deserialize.specs.Paths.{GivesAt};
@@ -10,13 +11,12 @@ use crate::platforms::OverridePlatforms;
 use nextest_config_elements_choices::{FlakyResult, TestOutputDisplay};
 use nextest_config_elements_deserialize::{Any, optional, optional_text, optional_value};
 use nextest_config_elements_identifiers::TestGroup;
-use nextest_config_elements_toml::ValueError;
+use nextest_config_elements_toml::{TableMembers, ValueError};
 use nextest_config_elements_values::{
     LeakTimeout, RetryPolicy, SlowTimeout, TestPriority, ThreadsRequired,
 };
 use nextest_text::{Listing, Text};
 use std::alloc::Global;
-use toml::Table;
 
 // From `bench` to `flaky-result`.
 #[derive(Drop)]
@@ -54,17 +54,23 @@ pub(crate) fn bench_to_flaky(
     alloc: Global,
     name: &str,
     place: &str,
-    table: &Table,
+    members: &mut TableMembers<'_>,
 ) -> Result<BenchToFlaky, ValueError>
-    ensures { GivesAt (override_path name.now place.now) result
-        (read.bench_to_flaky (table_view table.now)) }
+    ensures read { GivesAt (override_path name.now place.now) result
+        (read.bench_to_flaky (members_view members.old)) }
+    ensures members { members_view members.new ≡ members_view members.old }
 {
     let path = ["profile", name, "overrides", place];
-    let bench_slow_timeout = bench_at(alloc, name, place, table)?;
-    let default_filter = optional_text(alloc, table, &path, "default-filter")?;
-    let failure_output = optional::<Any, TestOutputDisplay>(alloc, table, &path, "failure-output")?;
-    let filter = optional_text(alloc, table, &path, "filter")?;
-    let flaky_result = optional::<Any, FlakyResult>(alloc, table, &path, "flaky-result")?;
+    let bench_slow_timeout = bench_at(alloc, name, place, members)?;
+    let default_filter = optional_text(alloc, members, &path, "default-filter")?;
+    let failure_output = optional::<Any, TestOutputDisplay>(
+        alloc,
+        members,
+        &path,
+        "failure-output",
+    )?;
+    let filter = optional_text(alloc, members, &path, "filter")?;
+    let flaky_result = optional::<Any, FlakyResult>(alloc, members, &path, "flaky-result")?;
     Ok(BenchToFlaky {
         bench_slow_timeout,
         default_filter,
@@ -80,17 +86,18 @@ pub(crate) fn junit_to_retries(
     alloc: Global,
     name: &str,
     place: &str,
-    table: &Table,
+    members: &mut TableMembers<'_>,
 ) -> Result<JunitToRetries, ValueError>
-    ensures { GivesAt (override_path name.now place.now) result
-        (read.junit_to_retries (table_view table.now)) }
+    ensures read { GivesAt (override_path name.now place.now) result
+        (read.junit_to_retries (members_view members.old)) }
+    ensures members { members_view members.new ≡ members_view members.old }
 {
     let path = ["profile", name, "overrides", place];
-    let junit = optional_value::<OverrideJunit>(alloc, table, &path, "junit")?;
-    let leak_timeout = optional_value::<LeakTimeout>(alloc, table, &path, "leak-timeout")?;
-    let platform = optional_value::<OverridePlatforms>(alloc, table, &path, "platform")?;
-    let priority = optional::<Any, TestPriority>(alloc, table, &path, "priority")?;
-    let retries = optional_value::<RetryPolicy>(alloc, table, &path, "retries")?;
+    let junit = optional_value::<OverrideJunit>(alloc, members, &path, "junit")?;
+    let leak_timeout = optional_value::<LeakTimeout>(alloc, members, &path, "leak-timeout")?;
+    let platform = optional_value::<OverridePlatforms>(alloc, members, &path, "platform")?;
+    let priority = optional::<Any, TestPriority>(alloc, members, &path, "priority")?;
+    let retries = optional_value::<RetryPolicy>(alloc, members, &path, "retries")?;
     Ok(JunitToRetries {
         junit,
         leak_timeout,
@@ -106,19 +113,25 @@ pub(crate) fn args_to_threads(
     alloc: Global,
     name: &str,
     place: &str,
-    table: &Table,
+    members: &mut TableMembers<'_>,
 ) -> Result<ArgsToThreads, ValueError>
-    ensures { GivesAt (override_path name.now place.now) result
-        (read.args_to_threads (table_view table.now)) }
+    ensures read { GivesAt (override_path name.now place.now) result
+        (read.args_to_threads (members_view members.old)) }
+    ensures members { members_view members.new ≡ members_view members.old }
 {
     let path = ["profile", name, "overrides", place];
-    let arguments = optional_value::<Listing<Text>>(alloc, table, &path, "run-extra-args")?;
-    let slow_timeout = optional_value::<SlowTimeout>(alloc, table, &path, "slow-timeout")?;
-    let success_output = optional::<Any, TestOutputDisplay>(alloc, table, &path, "success-output")?;
-    let test_group = optional_value::<TestGroup>(alloc, table, &path, "test-group")?;
+    let arguments = optional_value::<Listing<Text>>(alloc, members, &path, "run-extra-args")?;
+    let slow_timeout = optional_value::<SlowTimeout>(alloc, members, &path, "slow-timeout")?;
+    let success_output = optional::<Any, TestOutputDisplay>(
+        alloc,
+        members,
+        &path,
+        "success-output",
+    )?;
+    let test_group = optional_value::<TestGroup>(alloc, members, &path, "test-group")?;
     let threads_required = optional::<Any, ThreadsRequired>(
         alloc,
-        table,
+        members,
         &path,
         "threads-required",
     )?;
