@@ -1,4 +1,3 @@
 pub mod Accepting
-pub mod Failing
 pub mod Finding
 pub mod Listed

@@ -1,6 +1,6 @@
 // The script rules of a profile.
 ghost use Rattle.std.specs.Prelude.{[], decimal, option_map};
-ghost use Rattle.toml.specs.View.{items_view, table_view, view};
+ghost use Rattle.toml.specs.View.{items_view, members_view, table_view, view};
 ghost use Rattle.nextest_config_elements_toml.specs.Paths.{Gives};
 ghost use Rattle.nextest_config_elements_toml.specs.Reading.{under};
 ghost use Rattle.nextest_config_elements_deserialize.specs.Keys.{table_by};
@@ -9,7 +9,7 @@ ghost use Rattle.nextest_config_resolution_scripts.specs.Paths.{script_rules_pat
 ghost use Rattle.nextest_config_resolution_scripts.specs.Rules.{items_in, names_of, one_name, script_rule_in, script_rules_at, script_rules_of, setup_at};
 
 use nextest_config_elements_deserialize::{DeserializeValue, below, optional_text, optional_value};
-use nextest_config_elements_toml::{ValueError, member, refused};
+use nextest_config_elements_toml::{TableMembers, ValueError, member, refused};
 use nextest_config_resolution_commands::ScriptId;
 use nextest_config_resolution_overrides::OverridePlatforms;
 use nextest_text::{Listing, Text};
@@ -153,11 +153,12 @@ fn script_rule_in(
 ) -> Result<ScriptRuleConfig, ValueError>
     ensures { Gives path.now result (script_rule_in (table_view table.now)) }
 {
-    let filter = optional_text(alloc, table, path, "filter")?;
-    let list_wrapper = optional_value::<ScriptId>(alloc, table, path, "list-wrapper")?;
-    let platform = optional_value::<OverridePlatforms>(alloc, table, path, "platform")?;
-    let run_wrapper = optional_value::<ScriptId>(alloc, table, path, "run-wrapper")?;
-    let setup = setup_at(alloc, table, path)?;
+    let mut members = TableMembers::new(table);
+    let filter = optional_text(alloc, &mut members, path, "filter")?;
+    let list_wrapper = optional_value::<ScriptId>(alloc, &mut members, path, "list-wrapper")?;
+    let platform = optional_value::<OverridePlatforms>(alloc, &mut members, path, "platform")?;
+    let run_wrapper = optional_value::<ScriptId>(alloc, &mut members, path, "run-wrapper")?;
+    let setup = setup_at(alloc, &mut members, path)?;
     Ok(ScriptRuleConfig {
         filter,
         list_wrapper,
@@ -169,10 +170,14 @@ fn script_rule_in(
 
 // The setup scripts that the table of a rule at a path names.
 #[tactic(auto, using(nextest_config_elements_deserialize::proofs::Giving::gives_below))]
-fn setup_at(alloc: Global, table: &Table, path: &[&str]) -> Result<Listing<ScriptId>, ValueError>
-    ensures { Gives path.now result (setup_at (table_view table.now)) }
+fn setup_at(
+    alloc: Global,
+    members: &mut TableMembers<'_>,
+    path: &[&str],
+) -> Result<Listing<ScriptId>, ValueError>
+    ensures { Gives path.now result (setup_at (members_view members.old)) }
 {
-    match names_of(alloc, member(table, "setup")) {
+    match names_of(alloc, members.get("setup")) {
         Ok(names) => Ok(names),
         Err(error) => Err(below(alloc, path, "setup", error)),
     }

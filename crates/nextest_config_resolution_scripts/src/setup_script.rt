@@ -10,7 +10,7 @@ use nextest_config_elements_choices::SlowTimeoutResult;
 use nextest_config_elements_deserialize::{
     Any, DeserializeValue, defaulted, defaulted_value, optional_value, required_value,
 };
-use nextest_config_elements_toml::{ValueError, refused};
+use nextest_config_elements_toml::{TableMembers, ValueError, refused};
 use nextest_config_elements_values::{ConfigDuration, LeakTimeout, SlowTimeout};
 use nextest_config_resolution_commands::ScriptCommand;
 use std::alloc::Global;
@@ -113,8 +113,9 @@ fn junit_in(
 ) -> Result<SetupScriptJunitConfig, ValueError>
     ensures { Gives path.now result (junit_in (table_view table.now)) }
 {
-    let failing = defaulted::<Any, bool>(alloc, table, path, "store-failure-output", true)?;
-    let passing = defaulted::<Any, bool>(alloc, table, path, "store-success-output", true)?;
+    let mut members = TableMembers::new(table);
+    let failing = defaulted::<Any, bool>(alloc, &mut members, path, "store-failure-output", true)?;
+    let passing = defaulted::<Any, bool>(alloc, &mut members, path, "store-success-output", true)?;
     Ok(SetupScriptJunitConfig {
         store_success_output: passing,
         store_failure_output: failing,
@@ -169,15 +170,34 @@ fn setup_script_in(
 ) -> Result<SetupScriptConfig, ValueError>
     ensures { Gives path.now result (setup_script_in (table_view table.now)) }
 {
-    let capture_stderr = defaulted::<Any, bool>(alloc, table, path, "capture-stderr", false)?;
-    let capture_stdout = defaulted::<Any, bool>(alloc, table, path, "capture-stdout", false)?;
-    let command = required_value::<ScriptCommand>(alloc, table, path, "command", "a command")?;
+    let mut members = TableMembers::new(table);
+    let capture_stderr = defaulted::<Any, bool>(
+        alloc,
+        &mut members,
+        path,
+        "capture-stderr",
+        false,
+    )?;
+    let capture_stdout = defaulted::<Any, bool>(
+        alloc,
+        &mut members,
+        path,
+        "capture-stdout",
+        false,
+    )?;
+    let command = required_value::<ScriptCommand>(
+        alloc,
+        &mut members,
+        path,
+        "command",
+        "a command",
+    )?;
     let all = SetupScriptJunitConfig::default();
-    let junit = defaulted_value::<SetupScriptJunitConfig>(alloc, table, path, "junit", all)?;
-    let leak_timeout = optional_value::<LeakTimeout>(alloc, table, path, "leak-timeout")?;
+    let junit = defaulted_value::<SetupScriptJunitConfig>(alloc, &mut members, path, "junit", all)?;
+    let leak_timeout = optional_value::<LeakTimeout>(alloc, &mut members, path, "leak-timeout")?;
     let slow_timeout = optional_value::<SetupScriptSlowTimeout>(
         alloc,
-        table,
+        &mut members,
         path,
         "slow-timeout",
     )?;

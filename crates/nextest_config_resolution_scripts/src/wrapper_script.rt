@@ -8,7 +8,7 @@ ghost use Rattle.nextest_config_resolution_scripts.specs.Scripts.{wrapper_script
 use nextest_config_elements_deserialize::{
     Any, ConfigValue, DeserializeValue, defaulted, required_value,
 };
-use nextest_config_elements_toml::{ValueError, refused};
+use nextest_config_elements_toml::{TableMembers, ValueError, refused};
 use nextest_config_resolution_commands::ScriptCommand;
 use std::alloc::{AllocError, Global};
 use toml::{Table, Value};
@@ -100,11 +100,18 @@ fn wrapper_script_in(
 ) -> Result<WrapperScriptConfig, ValueError>
     ensures { Gives path.now result (wrapper_script_in (table_view table.now)) }
 {
-    let command = required_value::<ScriptCommand>(alloc, table, path, "command", "a command")?;
+    let mut members = TableMembers::new(table);
+    let command = required_value::<ScriptCommand>(
+        alloc,
+        &mut members,
+        path,
+        "command",
+        "a command",
+    )?;
     let ignored = WrapperScriptTargetRunner::Ignore;
     let target_runner = defaulted::<Any, WrapperScriptTargetRunner>(
         alloc,
-        table,
+        &mut members,
         path,
         "target-runner",
         ignored,
