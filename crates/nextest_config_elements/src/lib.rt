@@ -25,7 +25,9 @@ pub use nextest_config_elements_identifiers::{
     BadToolConfig, ConfigIdentifier, ConfigSourceKind, CustomTestGroup, InvalidIdentifier,
     TestGroup, ToolConfigFile, ToolConfigFileError, ToolName,
 };
-pub use nextest_config_elements_toml::{BadValue, KeyPath, ValueError, refused, refused_below};
+pub use nextest_config_elements_toml::{
+    BadValue, KeyPath, TableMembers, ValueError, refused, refused_below,
+};
 pub use nextest_config_elements_values::{
     BadDuration, ConfigDuration, GlobalTimeout, JunitConfig, JunitFlakyFailStatus, LeakTimeout,
     MismatchReason, ReportSkipPolicy, RetryPolicy, SlowTimeout, TestGroupConfig, TestPriority,
