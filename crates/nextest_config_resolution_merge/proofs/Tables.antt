@@ -1,5 +1,5 @@
 -- Tables as maps of their keys: a value that is set, and a table over another, its last key first.
-use Rattle.std.proofs.Common.{ℕ, ◌≡◌, ◌≤◌, true, List, [], ◌∷◌, None, Some, refl, sym, ap, ◌∙◌, cond, Ordering, Less, Equal, Greater, String, Global, string_bytes}
+use Rattle.std.proofs.Common.{ℕ, ◌≡◌, ◌≤◌, true, List, [], ◌∷◌, None, Some, refl, sym, ap, ◌∙◌, subst, cond, Ordering, Less, Equal, Greater, String, Global, string_bytes}
 use Rattle.std.proofs.Math.Nat.{le-max_left, le-max_right}
 use Rattle.std.proofs.lemmas.Bool.{false≢true}
 use Rattle.std.proofs.lemmas.Cmp.{nat_list_cmp_total}
@@ -13,8 +13,8 @@ use Rattle.std.specs.String.{string_cmp}
 use Rattle.toml.specs.Data.{Data, string, integer, float, boolean, datetime, array, table, Members, no_members, member, get_member, depth, members_depth}
 use Rattle.toml.specs.View.{view, members_view}
 use Rattle.toml.specs.declared.value.Value.{Value}
-use Rattle.nextest_config_resolution_merge.specs.Tree.{over, merge, with_member}
-use Rattle.nextest_config_resolution_merge.proofs.Keys.{IsBefore, key_cmp, equal_keys, before_less, get_before, get_set, turned, turned_back}
+use Rattle.nextest_config_resolution_merge.specs.Tree.{over, over_given, merge, with_member}
+use Rattle.nextest_config_resolution_merge.proofs.Keys.{IsBefore, key_cmp, equal_keys, before_less, get_before, get_set, same_key, turned, turned_back}
 
 abbrev pub Pair : Type 0
 Pair = String Global × Value
@@ -94,12 +94,99 @@ module _ (one other : List ℕ) (value given : Data) (less : key_cmp one other �
   set_either no_members = rw (turned one other less, less) refl
   set_either (member first old more) = set_both first old more (key_cmp one first) (key_cmp other first) refl refl (set_either more)
 
--- a value that is set before all of a table is set over it
-pub first_over : (key : List ℕ) (value : Data) (higher lower : Members) → IsBefore key higher → merge higher (with_member key value lower) ≡ with_member key value (merge higher lower)
-first_over key value no_members lower before = refl
-first_over key value (member other given more) lower before =
-    let same : get_member other (with_member key value lower) ≡ get_member other lower = get_set other key value lower ∙ rw (turned key other before.0) refl in
-    rw (same, first_over key value more lower before.1) (set_either key other value (over given (get_member other lower)) before.0 (merge more lower))
+-- of two values that are set at one key the first one counts for nothing
+pub set_twice : (key : List ℕ) (value former : Data) (members : Members) → with_member key value (with_member key former members) ≡ with_member key value members
+set_twice key value former no_members = rw (same_key key) refl
+set_twice key value former (member first old more) = by_first (key_cmp key first) refl (set_twice key value former more) where
+  by_first : (order : Ordering) → key_cmp key first ≡ order → with_member key value (with_member key former more) ≡ with_member key value more
+      → with_member key value (with_member key former (member first old more)) ≡ with_member key value (member first old more)
+  by_first Less e behind = rw (e, same_key key) refl
+  by_first Equal e behind = rw (e, same_key key) refl
+  by_first Greater e behind = rw (e, e) (ap (member first old) behind)
+
+-- a value that is set before all of a table is its first
+pub set_first : (key : List ℕ) (value : Data) (members : Members) → IsBefore key members → with_member key value members ≡ member key value members
+set_first key value no_members before = refl
+set_first key value (member other given more) before = rw before.0 refl
+
+-- two values at keys that aren't one are set in either order
+set_apart : (one other : List ℕ) (value given : Data) (order : Ordering) → key_cmp one other ≡ order → (order ≡ Equal → ⊥) → (members : Members)
+    → with_member other given (with_member one value members) ≡ with_member one value (with_member other given members)
+set_apart one other value given Less e apart all = set_either one other value given e all
+set_apart one other value given Equal e apart all = absurd (apart refl)
+set_apart one other value given Greater e apart all = sym (set_either other one given value (turned_back one other e) all)
+
+-- a value that is set in the lower table is set in both, under what the higher one has
+pub lower_set : (key : List ℕ) (value : Data) (higher lower : Members)
+    → merge higher (with_member key value lower) ≡ with_member key (over_given (get_member key higher) value) (merge higher lower)
+lower_set key value no_members lower = refl
+lower_set key value (member first old more) lower = by_first (key_cmp key first) refl (lower_set key value more lower) where
+  behind : (order : Ordering) → key_cmp key first ≡ order → (order ≡ Equal → ⊥) → get_member key (member first old more) ≡ get_member key more
+      → get_member first (with_member key value lower) ≡ get_member first lower
+      → merge more (with_member key value lower) ≡ with_member key (over_given (get_member key more) value) (merge more lower)
+      → merge (member first old more) (with_member key value lower) ≡ with_member key (over_given (get_member key (member first old more)) value) (merge (member first old more) lower)
+  behind order e apart same kept deeper =
+      rw (kept, deeper, same) (set_apart key first (over_given (get_member key more) value) (over old (get_member first lower)) order e apart (merge more lower))
+
+  by_first : (order : Ordering) → key_cmp key first ≡ order
+      → merge more (with_member key value lower) ≡ with_member key (over_given (get_member key more) value) (merge more lower)
+      → merge (member first old more) (with_member key value lower) ≡ with_member key (over_given (get_member key (member first old more)) value) (merge (member first old more) lower)
+  by_first Less e deeper =
+      behind Less e (λ same. absurd (less_apart same)) (rw e refl) (get_set first key value lower ∙ rw (turned key first e) refl) deeper
+    where
+      less_apart : Less ≡ Equal → ⊥
+      less_apart same = cc
+  by_first Greater e deeper =
+      behind Greater e (λ same. absurd (greater_apart same)) (rw e refl) (get_set first key value lower ∙ rw (turned_back key first e) refl) deeper
+    where
+      greater_apart : Greater ≡ Equal → ⊥
+      greater_apart same = cc
+  by_first Equal e deeper =
+      let one : key ≡ first = equal_keys key first e in
+      subst (λ (it : List ℕ). merge (member it old more) (with_member key value lower)
+      ≡ with_member key (over_given (get_member key (member it old more)) value) (merge (member it old more) lower)) one at_key
+    where
+      at_key : merge (member key old more) (with_member key value lower)
+          ≡ with_member key (over_given (get_member key (member key old more)) value) (merge (member key old more) lower)
+      at_key =
+          let found : get_member key (with_member key value lower) ≡ Some value = get_set key key value lower ∙ rw (same_key key) refl in
+          let there : get_member key (member key old more) ≡ Some old = rw (same_key key) refl in
+          rw (found, there, deeper, set_twice key (over old (Some value)) (over_given (get_member key more) value) (merge more lower))
+          (sym (set_twice key (over old (Some value)) (over old (get_member key lower)) (merge more lower)))
+
+-- a value that is set in the higher table is set in both, over what the lower one has
+pub higher_set : (key : List ℕ) (value : Data) (higher lower : Members)
+    → merge (with_member key value higher) lower ≡ with_member key (over value (get_member key lower)) (merge higher lower)
+higher_set key value no_members lower = refl
+higher_set key value (member first old more) lower = by_first (key_cmp key first) refl (higher_set key value more lower) where
+  by_first : (order : Ordering) → key_cmp key first ≡ order
+      → merge (with_member key value more) lower ≡ with_member key (over value (get_member key lower)) (merge more lower)
+      → merge (match_ordering order (member key value (member first old more)) (member key value more) (member first old (with_member key value more))) lower
+      ≡ with_member key (over value (get_member key lower)) (merge (member first old more) lower)
+  by_first Less e deeper = refl
+  by_first Equal e deeper =
+      let one : key ≡ first = equal_keys key first e in
+      subst (λ (it : List ℕ). merge (member key value more) lower ≡ with_member key (over value (get_member key lower)) (merge (member it old more) lower)) one
+      (sym (set_twice key (over value (get_member key lower)) (over old (get_member key lower)) (merge more lower)))
+  by_first Greater e deeper =
+      rw deeper (sym (set_either first key (over old (get_member first lower)) (over value (get_member key lower)) (turned_back key first e) (merge more lower)))
+
+-- the first member of the lower table goes into the higher one
+pub goes_up : (key : List ℕ) (value : Data) (higher lower : Members) → IsBefore key lower
+    → merge (with_member key (over_given (get_member key higher) value) higher) lower ≡ merge higher (member key value lower)
+goes_up key value higher lower before =
+    let all : Data = over_given (get_member key higher) value in
+    higher_set key all higher lower
+    ∙ ap (λ (it : Data). with_member key it (merge higher lower)) (ap (over all) (get_before key lower before) ∙ over_none all)
+    ∙ sym (lower_set key value higher lower)
+    ∙ ap (merge higher) (set_first key value lower before)
+
+-- over nothing it is the higher table
+pub over_nothing : (pairs : List Pair) → IsStrictlySortedBy string_cmp (keys_of pairs) → merge (members_view pairs) no_members ≡ members_view pairs
+unfolding IsStrictlySortedBy
+over_nothing [] rise = refl
+over_nothing (pair ∷ pairs) rise =
+    rw (over_none (view pair.1), over_nothing pairs rise.1) (set_first (string_bytes pair.0) (view pair.1) (members_view pairs) (before_keys pair.0 pairs rise.0))
 
 -- a part of a table is no deeper
 pub first_depth : (pair : Pair) (pairs : List Pair) → depth (view pair.1) ≤ members_depth (members_view (pair ∷ pairs))

@@ -1,5 +1,5 @@
 -- Trees of tables: what stands at a path, and a tree over another.
-use Rattle.std.specs.Prelude.{ℕ, List, [], ◌∷◌, Option, Some, option_and_then}
+use Rattle.std.specs.Prelude.{ℕ, List, [], ◌∷◌, Option, None, Some, option_and_then}
 use Rattle.std.specs.Ordering.{nat_cmp, match_ordering}
 use Rattle.std.specs.Cmp.Lexicographic.{slice_cmp}
 use Rattle.toml.specs.Data.{Data, table, Members, no_members, member, get, get_member}
@@ -30,3 +30,8 @@ abbrev mutual
   pub merge : Members → Members → Members
   merge no_members lower = lower
   merge (member key value more) lower = with_member key (over value (get_member key lower)) (merge more lower)
+
+-- what comes of a value under what is there, if there is something
+abbrev pub over_given : Option Data → Data → Data
+over_given None lower = lower
+over_given (Some higher) lower = over higher (Some lower)
