@@ -49,8 +49,12 @@ abbrev pub at : {A : Type 0} → Path → Reading A → Reading A
 at path (Ok x) = Ok x
 at path (Err inner) = Err (path ++ inner)
 
--- a call that is handed a path gives what reading gives there; want of memory says nothing
+-- a call gives what reading gives at a path; want of memory says nothing
+abbrev pub GivesAt : {A : Type 0} → Path → Result A ValueError → Reading A → Type 0
+GivesAt path (Ok x) reading = reading ≡ Ok x
+GivesAt path (Err (error.Refused bad)) reading = at path reading ≡ Err bad.path.keys
+GivesAt path (Err error.OutOfMemory) reading = ⊤
+
+-- the same, of a path that the call is handed
 abbrev pub Gives : {A : Type 0} → List (Bor (List ℕ)) → Result A ValueError → Reading A → Type 0
-Gives path (Ok x) reading = reading ≡ Ok x
-Gives path (Err (error.Refused bad)) reading = at (texts path) reading ≡ Err bad.path.keys
-Gives path (Err error.OutOfMemory) reading = ⊤
+Gives path result reading = GivesAt (texts path) result reading

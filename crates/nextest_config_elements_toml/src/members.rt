@@ -1,8 +1,8 @@
 // Members of a table that are asked for in the order of their keys.
-ghost use Rattle.std.specs.Prelude.{◌≡◌, Bool, List, false, option_copied, option_map};
+ghost use Rattle.std.specs.Prelude.{◌≡◌, List, false, option_map};
 ghost use Rattle.toml.specs.Data.{get_member};
 ghost use Rattle.toml.specs.View.{members_view, table_view, view};
-ghost use Rattle.nextest_config_elements_toml.specs.Walks.{Entry, IsWalk, ahead, is_passed};
+ghost use Rattle.nextest_config_elements_toml.specs.Walks.{Entry, IsWalk, is_passed};
 
 use crate::table::member;
 use std::cmp::Ordering;
@@ -63,7 +63,8 @@ impl<'a> TableMembers<'a> {
 
     /// What stands under a key.
     pub fn get(&mut self, key: &str) -> Option<&'a Value>
-        ensures found { option_map (λ it. view it.now) result ≡ get_member key.now (members_view self.old) }
+        ensures found { option_map (λ it. view it.now) result
+            ≡ get_member key.now (members_view self.old) }
         ensures members { members_view self.new ≡ members_view self.old }
     {
         if self.walk.is_past(key) {

@@ -1,26 +1,31 @@
 -- How a file is read, profile by profile.
-use Rattle.std.proofs.Common.{◌≡◌, ℕ, List, [], ◌∷◌, ◌++◌, Ok, Err, String, Global, string_bytes, nat_cmp, refl, sym, ap, ◌∙◌}
+use Rattle.std.proofs.Common.{◌≡◌, ℕ, List, [], ◌∷◌, ◌++◌, Result, Ok, Err, String, Vec, Global, nat_cmp, refl, sym, ap, ◌∙◌}
 use Rattle.std.specs.Cmp.Lexicographic.{slice_cmp}
 use Rattle.std.specs.Ordering.{match_ordering}
 use Rattle.std.specs.declared.cmp.Ordering.{Ordering}
 use Rattle.std.specs.declared.cmp.Ordering.TheVariants.{Less, Equal, Greater}
-use Rattle.toml.specs.View.{members_view, view}
+use Rattle.toml.specs.View.{members_view}
 use Rattle.toml.specs.declared.value.Value.{Value}
 use Rattle.nextest_config_elements_toml.specs.Paths.{at}
 use Rattle.nextest_config_elements_toml.specs.Reading.{Path, Reading}
 use Rattle.nextest_config_elements_toml.specs.declared.bad_value.BadValue.{BadValue}
+use Rattle.nextest_config_elements_toml.specs.declared.value_error.ValueError.{ValueError}
 use Rattle.nextest_config_elements_deserialize.specs.Paths.{profile_path}
-use Rattle.nextest_config_resolution_load.specs.File.{by_keys, first_key, first_path, rules_of_profile, profiles_in_file}
-use Rattle.nextest_config_resolution_load.specs.Reading.{refused_values, third}
+use Rattle.nextest_config_resolution_load.specs.File.{by_keys, first_key, first_path, profiles_in_file}
+use Rattle.nextest_config_resolution_load.specs.Reading.{GivesBackward, refused_values, third}
 use Rattle.nextest_config_resolution_load.specs.declared.file_config.ProfileRules.{ProfileRules}
-use Rattle.nextest_config_resolution_overrides.proofs.Listed.{joined, value_more}
 
--- one more profile
-pub profile_more : (found : List ProfileRules) (told : List ℕ) (one : ProfileRules) (added : List ProfileRules) (key : String Global) (given : Value)
-    (entries more : List (String Global × Value)) → entries ≡ (key, given) ∷ more → told ≡ string_bytes key → added ≡ found ++ one ∷ []
-    → rules_of_profile told (view given) ≡ Ok one → joined found (profiles_in_file (members_view entries)) ≡ joined added (profiles_in_file (members_view more))
-profile_more found told one added key given entries more here says adds is =
-    rw (here, sym says, adds) (value_more told found one (rules_of_profile told (view given)) (profiles_in_file (members_view more)) is)
+-- ---- profiles, the last one first
+
+-- what stands at keys of a table
+abbrev pub Entry : Type 0
+Entry = String Global × Value
+
+-- those that a loop from the end has read, of all and with those that are left
+pub record ReadBackward (all left : List Entry) (read : Result (Vec ProfileRules Global) ValueError) : Type 0 where
+  pub behind : List Entry
+  pub whole : all ≡ left ++ behind
+  pub gives : GivesBackward read (profiles_in_file (members_view behind))
 
 -- ---- two values that are refused in one profile
 

@@ -6,11 +6,10 @@ use Rattle.toml.specs.Data.{Data}
 use Rattle.toml.specs.View.{view}
 use Rattle.toml.specs.declared.value.Value.{Value}
 use Rattle.nextest_config_elements_toml.specs.Reading.{Reading, under}
-use Rattle.nextest_config_elements_toml.specs.Paths.{at, Gives}
+use Rattle.nextest_config_elements_toml.specs.Paths.{Gives, GivesAt, at}
 use Rattle.nextest_config_elements_toml.specs.declared.bad_value.BadValue.{BadValue}
 use Rattle.nextest_config_elements_toml.specs.declared.value_error.ValueError.{ValueError}
 use Rattle.nextest_config_elements_toml.specs.declared.value_error.ValueError.TheVariants as value_error
-use Rattle.nextest_config_elements_deserialize.specs.Paths.{GivesAt}
 use Rattle.nextest_config_resolution_load.specs.Reading.{GivesSeen}
 
 pub gives_refused : {A : Type 0} (reading : Reading A) (told : ValueError) (bad : BadValue) → told ≡ value_error.Refused bad → Gives [] (Err told) reading → reading ≡ Err bad.path.keys

@@ -1,15 +1,18 @@
 -- What calls of this crate give on their way to a configuration.
-use Rattle.std.specs.Prelude.{◌≡◌, ℕ, Bool, not, List, [], ◌++◌, codes, get_or, map, reverse, filter_map, Option, None, Some, option_map, Result, Ok, Err, ⊤}
+use Rattle.std.specs.Prelude.{◌≡◌, ℕ, Bool, not, List, [], ◌∷◌, ◌++◌, Vec, codes, get_or, map, reverse, filter_map, Option, None, Some, option_map, Result, Ok, Err, ⊤}
 use Rattle.std.specs.BTreeSet.{BTreeSet, contains_by}
 use Rattle.std.specs.Cmp.Lexicographic.{slice_cmp}
+use Rattle.std.specs.Global.{Global}
 use Rattle.std.specs.List.{AllZip, flat_map}
 use Rattle.std.specs.Ordering.{nat_cmp}
 use denote.Ref.{Bor}
 use Rattle.toml.specs.Data.{Data, table, Members}
 use Rattle.toml.specs.View.{table_view}
+use Rattle.nextest_config_elements_toml.specs.Paths.{GivesAt}
 use Rattle.nextest_config_elements_toml.specs.Reading.{Path, Reading, ◌>>=◌, under}
 use Rattle.nextest_config_elements_toml.specs.declared.value_error.ValueError.{ValueError}
 use Rattle.nextest_config_elements_toml.specs.declared.value_error.ValueError.TheVariants as error
+use Rattle.nextest_config_elements_deserialize.specs.Paths.{profile_path}
 use Rattle.nextest_config_resolution_inheritance.specs.Inheritance.{Rise}
 use Rattle.nextest_config_resolution_load.specs.Checks.{Check, FileRules, must_hold, repeated_script, MergedConfig, bad_merged, config_in, file_of, file_with_setup, merged_in, no_toml, parents_of, rules_in, rules_of_source, source_checks, tree_of_files, value_checks}
 use Rattle.nextest_config_resolution_load.specs.Load.{AreReadRules, AreReadScriptRules, IsFilterBy, IsReadAs, IsSpecBy, LoadedOverride, LoadedScriptRule, named_of, reason_of, merged_of}
@@ -87,6 +90,23 @@ third keys = get_or keys 2 []
 -- the values of a profile are refused at a path
 abbrev pub refused_values : Path → Reading ProfileConfig
 refused_values path = Err path
+
+-- profiles that a call gives in reverse, of those that stand under `profile`
+abbrev pub GivesBackward : Result (Vec ProfileRules Global) ValueError → Reading (List ProfileRules) → Type 0
+GivesBackward (Ok found) reading = reading ≡ Ok (reverse found.items)
+GivesBackward (Err told) reading = GivesAt {A = List ProfileRules} (codes "profile" ∷ []) (Err told) reading
+
+-- the profile of a name, and others behind it
+abbrev pub first_and : List ℕ → Reading ProfileRules → Reading (List ProfileRules) → Reading (List ProfileRules)
+first_and name first others = do
+  one ← under name first
+  more ← others
+  Ok (one ∷ more)
+
+-- what a call read of a profile is put before what others gave
+abbrev pub IsPutBefore : Result ProfileRules ValueError → Result (Vec ProfileRules Global) ValueError → Result (Vec ProfileRules Global) ValueError → Type 0
+IsPutBefore one others result = (name : List ℕ) (first : Reading ProfileRules) (rest : Reading (List ProfileRules))
+    → GivesAt (profile_path name) one first → GivesBackward others rest → GivesBackward result (first_and name first rest)
 
 -- a call parses the text of a file, or it is no TOML; want of memory says nothing
 abbrev pub ParsesText : {T : Type 0} → (T → Members) → List ℕ → Option Members → Result T LoadError → Type 0

@@ -3,11 +3,11 @@ ghost use Rattle.std.specs.Prelude.{◌≡◌, ◌++◌, [], ◌∷◌, codes};
 ghost use Rattle.std.specs.Cmp.Lexicographic.{slice_cmp};
 ghost use Rattle.std.specs.Ordering.{match_ordering, nat_cmp};
 ghost use Rattle.toml.specs.View.{table_view, view};
-ghost use Rattle.nextest_config_elements_toml.specs.Paths.{Gives};
+ghost use Rattle.nextest_config_elements_toml.specs.Paths.{Gives, GivesAt};
 ghost use Rattle.nextest_config_elements_toml.specs.Reading.{Path};
-ghost use Rattle.nextest_config_resolution_load.specs.Reading.{refused_values, third};
+ghost use Rattle.nextest_config_resolution_load.specs.Reading.{IsPutBefore, refused_values, third};
 ghost use Rattle.nextest_config_elements_deserialize.specs.Keys.{table_by};
-ghost use Rattle.nextest_config_elements_deserialize.specs.Paths.{GivesAt, profile_path};
+ghost use Rattle.nextest_config_elements_deserialize.specs.Paths.{profile_path};
 ghost use Rattle.nextest_config_elements_versions.specs.Demand as demand;
 ghost use Rattle.nextest_config_resolution_load.specs.File.{by_keys, check_of, file_in, profiles_at_file, profiles_in_file, rules_in_profile, rules_in_table, rules_of_profile};
 ghost use Rattle.nextest_config_resolution_overrides.specs.Groups.{groups_at};
@@ -114,15 +114,31 @@ fn read_profiles(alloc: Global, table: &Table) -> Result<Listing<ProfileRules>, 
     }
 }
 
-// Each profile of a table.
+// Each profile of a table. The last one is read first: what the end of a table was made of is still
+// at hand when its text was just read.
 fn read_each(alloc: Global, profiles: &Table) -> Result<Listing<ProfileRules>, ValueError>
     ensures { GivesAt (codes "profile" ∷ []) result (profiles_in_file (table_view profiles.now)) }
 {
-    let mut found = Listing::new(alloc);
-    for (name, given) in profiles {
-        let one = read_profile(alloc, name.as_str(), given)?;
-        found.push(one)?;
+    let mut read = Ok(Vec::new(alloc));
+    for (name, given) in profiles.iter().rev() {
+        let one = read_profile(alloc, name.as_str(), given);
+        read = before(one, read);
     }
+    let mut found = read?;
+    found.reverse();
+    Ok(Listing::from(found))
+}
+
+// A profile before those that were read, of which the last one is the first here.
+fn before(
+    one: Result<ProfileRules, ValueError>,
+    read: Result<Vec<ProfileRules>, ValueError>,
+) -> Result<Vec<ProfileRules>, ValueError>
+    ensures { IsPutBefore one read result }
+{
+    let one = one?;
+    let mut found = read?;
+    found.push(one)?;
     Ok(found)
 }
 

@@ -117,7 +117,7 @@ fn read_sources<R: Languages>(
 {
     let counted = counted(alloc, sources)?;
     let read = read_files::<R>(alloc, built_in, cx, features, counted.as_slice(), kept)?;
-    let config = read_tree::<R>(alloc, cx, &read.tree)?;
+    let config = read_tree::<R>(alloc, cx, read.tree)?;
     Ok(ReadSources {
         config,
         rules: read.rules,
@@ -125,8 +125,8 @@ fn read_sources<R: Languages>(
 }
 
 // What a merged tree says, whose values are all such as their keys can have.
-fn read_tree<R: Languages>(alloc: Global, cx: &R::Cx, tree: &Table) -> Result<ReadConfig, LoadError>
-    ensures read { let given = config_in (table_view tree.now)
+fn read_tree<R: Languages>(alloc: Global, cx: &R::Cx, tree: Table) -> Result<ReadConfig, LoadError>
+    ensures read { let given = config_in (table_view tree)
         in Passes (R.is_filter cx.now) R.is_spec R.is_too_deep (value_checks bad_merged given)
         (λ it. given ≡ read_as it) result }
     ensures rises { IfOk result (λ it. Rise (parents_of (values_of it).profiles)) }

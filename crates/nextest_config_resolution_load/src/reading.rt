@@ -1,5 +1,6 @@
 // What a merged tree says.
-ghost use Rattle.std.specs.Prelude.{codes, map, IfOk};
+ghost use Rattle.std.specs.Prelude.{◌≡◌, codes, map, option_map, IfOk};
+ghost use Rattle.toml.specs.Data.{get_member};
 ghost use Rattle.toml.specs.View.{table_view, view};
 ghost use Rattle.nextest_config_elements_toml.specs.Reading.{under};
 ghost use Rattle.nextest_config_resolution_inheritance.specs.Inheritance.{Rise};
@@ -19,15 +20,19 @@ use nextest_text::{Listing, Text};
 use std::alloc::Global;
 use toml::{Table, Value};
 
-// What a tree says of profiles, scripts, the store and groups.
-pub(crate) fn read_config(alloc: Global, tree: &Table) -> Result<ReadConfig, ValueError>
-    ensures read { GivesSeen values_of result (config_in (table_view tree.now)) }
+// What a tree says of profiles, scripts, the store and groups. Each profile is dropped once it is
+// read, while its memory is at hand, so all else is read before.
+pub(crate) fn read_config(alloc: Global, tree: Table) -> Result<ReadConfig, ValueError>
+    ensures read { GivesSeen values_of result (config_in (table_view tree)) }
     ensures rises { IfOk result (λ it. Rise (parents_of (values_of it).profiles)) }
 {
+    let scripts = read_scripts(alloc, &tree);
+    let store_dir = read_store_dir(alloc, &tree);
+    let groups = read_groups(alloc, &tree);
     let profiles = read_profiles(alloc, tree)?;
-    let scripts = read_scripts(alloc, tree)?;
-    let store_dir = read_store_dir(alloc, tree)?;
-    let groups = read_groups(alloc, tree)?;
+    let scripts = scripts?;
+    let store_dir = store_dir?;
+    let groups = groups?;
     Ok(ReadConfig {
         profiles,
         groups,
@@ -58,26 +63,34 @@ fn read_store_dir(alloc: Global, tree: &Table) -> Result<Option<Text>, ValueErro
 }
 
 // The profiles, by the bytes of their names.
-fn read_profiles(alloc: Global, tree: &Table) -> Result<Listing<NamedProfile>, ValueError>
-    ensures read { GivesSeen (map named_of) result (profiles_at (table_view tree.now)) }
+fn read_profiles(alloc: Global, tree: Table) -> Result<Listing<NamedProfile>, ValueError>
+    ensures read { GivesSeen (map named_of) result (profiles_at (table_view tree)) }
     ensures rises { IfOk result (λ it. Rise (parents_of (map named_of it))) }
 {
-    match member(tree, "profile") {
+    match taken(tree, "profile") {
         None => Ok(Listing::new(alloc)),
         Some(Value::Table(profiles)) => read_each(alloc, profiles),
-        Some(other) => Err(refused(alloc, &["profile"], Some(other), "a table")),
+        Some(other) => Err(refused(alloc, &["profile"], Some(&other), "a table")),
     }
 }
 
+// What stands under a key of a table.
+fn taken(table: Table, key: &str) -> Option<Value>
+    ensures { option_map view result ≡ get_member key.now (table_view table) }
+{
+    let mut left = table;
+    left.remove(key)
+}
+
 // The profiles of a table.
-fn read_each(alloc: Global, profiles: &Table) -> Result<Listing<NamedProfile>, ValueError>
+fn read_each(alloc: Global, profiles: Table) -> Result<Listing<NamedProfile>, ValueError>
     ensures read { GivesSeen (map named_of) result
-        (under (codes "profile") (profiles_in (table_view profiles.now))) }
+        (under (codes "profile") (profiles_in (table_view profiles))) }
     ensures rises { IfOk result (λ it. Rise (parents_of (map named_of it))) }
 {
     let mut found = Vec::with_capacity(alloc, profiles.len())?;
     for (name, given) in profiles {
-        let profile = named_profile(alloc, name.as_str(), given)?;
+        let profile = named_profile(alloc, name.as_str(), &given)?;
         found.push(profile)?;
     }
     Ok(Listing::from(found))

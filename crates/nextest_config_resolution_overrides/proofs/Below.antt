@@ -3,11 +3,10 @@ use Rattle.std.proofs.Common.{◌≡◌, ℕ, List, [], ◌∷◌, ◌++◌, Opt
 use Rattle.std.specs.Prelude.{Result}
 use Rattle.std.proofs.lemmas.List.{append_assoc}
 use Rattle.toml.specs.Data.{Data}
-use Rattle.nextest_config_elements_toml.specs.Paths.{at}
+use Rattle.nextest_config_elements_toml.specs.Paths.{GivesAt, at}
 use Rattle.nextest_config_elements_toml.specs.Reading.{Path, Reading, under}
 use Rattle.nextest_config_elements_toml.specs.declared.value_error.ValueError.{ValueError}
 use Rattle.nextest_config_elements_toml.specs.declared.value_error.ValueError.TheVariants as error
-use Rattle.nextest_config_elements_deserialize.specs.Paths.{GivesAt}
 
 -- a reading at a key's own path is one of what is under it
 at_under : {A : Type 0} (path : Path) (key : List ℕ) (reading : Reading A) → at (path ++ key ∷ []) reading ≡ at path (under key reading)

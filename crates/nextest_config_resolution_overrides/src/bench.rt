@@ -3,7 +3,7 @@ ghost use Rattle.std.specs.Prelude.{◌≡◌, option_map};
 ghost use Rattle.toml.specs.View.{members_view, table_view, view};
 ghost use Rattle.nextest_config_resolution_overrides.specs.Overrides.{bench_at, bench_in, bench_of};
 ghost use Rattle.nextest_config_resolution_overrides.specs.Paths.{bench_path, override_path};
-ghost use Rattle.nextest_config_elements_deserialize.specs.Paths.{GivesAt};
+ghost use Rattle.nextest_config_elements_toml.specs.Paths.{GivesAt};
 
 use nextest_config_elements_deserialize::deserialize_slow_timeout;
 use nextest_config_elements_toml::{TableMembers, ValueError, member, refused};

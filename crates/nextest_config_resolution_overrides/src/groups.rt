@@ -3,7 +3,7 @@ ghost use Rattle.std.specs.Prelude.{◌≡◌, IfOk, option_map};
 ghost use Rattle.toml.specs.View.{table_view, view};
 ghost use Rattle.nextest_config_elements_identifiers.specs.Config.{identifier};
 ghost use Rattle.nextest_config_resolution_overrides.specs.Groups.{group_of, group_path, groups_in, groups_of, groups_path, name_of_identifier};
-ghost use Rattle.nextest_config_elements_deserialize.specs.Paths.{GivesAt};
+ghost use Rattle.nextest_config_elements_toml.specs.Paths.{GivesAt};
 
 use nextest_config_elements_deserialize::deserialize_test_group_config;
 use nextest_config_elements_identifiers::{CustomTestGroup, InvalidIdentifier};

@@ -5,7 +5,8 @@ ghost use Rattle.nextest_config_elements_toml.specs.Reading.{under};
 ghost use Rattle.nextest_config_resolution_overrides.specs.Overrides.{config_of, override_in, overrides_at, overrides_in, overrides_of};
 ghost use Rattle.nextest_config_resolution_overrides.specs.Paths.{override_path, overrides_path};
 ghost use Rattle.nextest_config_elements_deserialize.specs.Keys.{table_by};
-ghost use Rattle.nextest_config_elements_deserialize.specs.Paths.{GivesAt, profile_path};
+ghost use Rattle.nextest_config_elements_toml.specs.Paths.{GivesAt};
+ghost use Rattle.nextest_config_elements_deserialize.specs.Paths.{profile_path};
 
 use crate::override_config::OverrideConfig;
 use crate::spans::{

@@ -3,7 +3,7 @@ ghost use Rattle.std.specs.Prelude.{◌≡◌};
 ghost use Rattle.toml.specs.View.{members_view};
 ghost use Rattle.nextest_config_resolution_overrides.specs.Overrides as read;
 ghost use Rattle.nextest_config_resolution_overrides.specs.Paths.{override_path};
-ghost use Rattle.nextest_config_elements_deserialize.specs.Paths.{GivesAt};
+ghost use Rattle.nextest_config_elements_toml.specs.Paths.{GivesAt};
 
 use crate::bench::bench_at;
 use crate::junit::OverrideJunit;

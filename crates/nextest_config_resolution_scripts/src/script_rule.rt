@@ -1,10 +1,10 @@
 // The script rules of a profile.
 ghost use Rattle.std.specs.Prelude.{[], decimal, option_map};
 ghost use Rattle.toml.specs.View.{items_view, members_view, table_view, view};
-ghost use Rattle.nextest_config_elements_toml.specs.Paths.{Gives};
+ghost use Rattle.nextest_config_elements_toml.specs.Paths.{Gives, GivesAt};
 ghost use Rattle.nextest_config_elements_toml.specs.Reading.{under};
 ghost use Rattle.nextest_config_elements_deserialize.specs.Keys.{table_by};
-ghost use Rattle.nextest_config_elements_deserialize.specs.Paths.{GivesAt, profile_path};
+ghost use Rattle.nextest_config_elements_deserialize.specs.Paths.{profile_path};
 ghost use Rattle.nextest_config_resolution_scripts.specs.Paths.{script_rules_path};
 ghost use Rattle.nextest_config_resolution_scripts.specs.Rules.{items_in, names_of, one_name, script_rule_in, script_rules_at, script_rules_of, setup_at};
 

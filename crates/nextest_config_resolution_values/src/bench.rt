@@ -1,7 +1,7 @@
 // What holds of benchmarks.
 ghost use Rattle.toml.specs.View.{table_view, view};
 ghost use Rattle.nextest_config_elements_deserialize.specs.Keys.{table_by};
-ghost use Rattle.nextest_config_elements_deserialize.specs.Paths.{GivesAt};
+ghost use Rattle.nextest_config_elements_toml.specs.Paths.{GivesAt};
 ghost use Rattle.nextest_config_resolution_values.specs.Paths.{bench_path};
 ghost use Rattle.nextest_config_resolution_values.specs.Profile.{bench_in};
 

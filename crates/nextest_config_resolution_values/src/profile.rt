@@ -2,7 +2,8 @@
 ghost use Rattle.std.specs.Prelude.{◌≡◌, codes};
 ghost use Rattle.toml.specs.View.{members_view, table_view, view};
 ghost use Rattle.nextest_config_elements_deserialize.specs.Keys.{optional_by, table_by};
-ghost use Rattle.nextest_config_elements_deserialize.specs.Paths.{GivesAt, profile_path};
+ghost use Rattle.nextest_config_elements_toml.specs.Paths.{GivesAt};
+ghost use Rattle.nextest_config_elements_deserialize.specs.Paths.{profile_path};
 ghost use Rattle.nextest_config_resolution_values.specs.Profile.{bench_in, config_of, profile_in, profile_of};
 
 use crate::bench::{ProfileBench, bench_of};

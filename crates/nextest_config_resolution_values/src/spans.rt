@@ -1,7 +1,8 @@
 // The values of a profile's keys that stand side by side.
 ghost use Rattle.std.specs.Prelude.{◌≡◌};
 ghost use Rattle.toml.specs.View.{members_view};
-ghost use Rattle.nextest_config_elements_deserialize.specs.Paths.{GivesAt, profile_path};
+ghost use Rattle.nextest_config_elements_toml.specs.Paths.{GivesAt};
+ghost use Rattle.nextest_config_elements_deserialize.specs.Paths.{profile_path};
 ghost use Rattle.nextest_config_resolution_values.specs.Profile as read;
 
 use nextest_config_elements_choices::{

@@ -1,7 +1,7 @@
 // The directory of the store.
 ghost use Rattle.std.specs.Prelude.{[], ◌∷◌, codes, option_map};
 ghost use Rattle.toml.specs.View.{view};
-ghost use Rattle.nextest_config_elements_deserialize.specs.Paths.{GivesAt};
+ghost use Rattle.nextest_config_elements_toml.specs.Paths.{GivesAt};
 ghost use Rattle.nextest_config_resolution_values.specs.File.{store_dir_of};
 
 use nextest_config_elements_deserialize::optional_text;

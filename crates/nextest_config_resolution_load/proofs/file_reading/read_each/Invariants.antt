@@ -1,9 +1,7 @@
-use Rattle.std.proofs.Common.{◌≡◌}
-use Rattle.toml.specs.View.{members_view}
-use Rattle.nextest_config_resolution_load.specs.File.{profiles_in_file}
+use Rattle.std.specs.Iterator.Adapters.{rev_source}
+use Rattle.nextest_config_resolution_load.proofs.FilesRead.{ReadBackward}
 use Rattle.nextest_config_resolution_load.proofs.file_reading.read_each.Given as goal
-use Rattle.nextest_config_resolution_overrides.proofs.Listed.{joined}
 
--- the profiles so far, and then those that are ahead
+-- what the profiles so far come to, those from the end
 abbrev pub invariant-loop-name : goal.invariant-loop-name
-invariant-loop-name l = profiles_in_file (members_view l.profiles.entries) ≡ joined l.found (profiles_in_file (members_view l.name-iterator))
+invariant-loop-name l = ReadBackward l.profiles.entries (rev_source l.name-iterator) l.read

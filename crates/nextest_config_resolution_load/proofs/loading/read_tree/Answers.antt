@@ -18,4 +18,4 @@ returns-in-Err-Refused-clause-read g c =
     let bad = c.in-Err-Refused in
     subst (λ (reading : Reading MergedConfig). BreaksFirst (g.R.Languages.is_filter c.args.cx.now) g.R.Languages.is_spec g.R.Languages.is_too_deep (value_checks bad_merged reading)
     (bad_merged bad.value.path.keys))
-    (sym (seen_refused values_of (config_in (table_view c.args.tree.now)) bad.field-0 bad.value bad.field-0-is bad.ensures.read)) (inl refl)
+    (sym (seen_refused values_of (config_in (table_view c.args.tree)) bad.field-0 bad.value bad.field-0-is bad.ensures.read)) (inl refl)

@@ -9,13 +9,13 @@ use Rattle.nextest_config_resolution_load.proofs.reading.read_config.Goals as go
 
 pub returns-in_err-profiles-clause-read : goal.returns-in_err-profiles-clause-read
 returns-in_err-profiles-clause-read c =
-    let top = table_view c.args.tree.now in
+    let top = table_view c.args.tree in
     let told = c.in_err-profiles.field-0.0 in
     handed_on values_of c.from_residual.result told (config_in top) c.from_residual.ensures.1 (profiles_refused top told (c.in_err-profiles.ensures.read))
 
 pub returns-in_err-scripts-clause-read : goal.returns-in_err-scripts-clause-read
 returns-in_err-scripts-clause-read c =
-    let top = table_view c.args.tree.now in
+    let top = table_view c.args.tree in
     let told = c.in_err-scripts.field-0.0 in
     let passed = c.from_residual-in_err-scripts in
     handed_on values_of passed.result told (config_in top) passed.ensures.1
@@ -23,7 +23,7 @@ returns-in_err-scripts-clause-read c =
 
 pub returns-in_err-store_dir-clause-read : goal.returns-in_err-store_dir-clause-read
 returns-in_err-store_dir-clause-read c =
-    let top = table_view c.args.tree.now in
+    let top = table_view c.args.tree in
     let told = c.in_err-store_dir.field-0.0 in
     let passed = c.from_residual-in_err-store_dir in
     handed_on values_of passed.result told (config_in top) passed.ensures.1
@@ -32,7 +32,7 @@ returns-in_err-store_dir-clause-read c =
 
 pub returns-in_err-groups-clause-read : goal.returns-in_err-groups-clause-read
 returns-in_err-groups-clause-read c =
-    let top = table_view c.args.tree.now in
+    let top = table_view c.args.tree in
     let told = c.in_err-groups.field-0.0 in
     let passed = c.from_residual-in_err-groups in
     handed_on values_of passed.result told (config_in top) passed.ensures.1

@@ -14,7 +14,7 @@ use Rattle.nextest_config_resolution_load.proofs.reading.read_each.Goals as goal
 
 pub loop-name-preserved : goal.loop-name-preserved
 loop-name-preserved c =
-    found_more (table_view c.args.profiles.now) c.loop-name.found.items c.push.new.self.items c.as_str.result.now c.in_ok-profile.profile c.in-Some.name.now c.in-Some.given.now
+    found_more (table_view c.args.profiles) c.loop-name.found.items c.push.new.self.items c.as_str.result.now c.in_ok-profile.profile c.in-Some.name c.in-Some.given
     c.loop-name.name-iterator c.next.new.self c.in-Some.ensures.steps c.as_str.ensures.value c.in_ok-push.ensures.items c.in_ok-profile.ensures c.loop-name.invariant
 
 pub returns-clause-rises : goal.returns-clause-rises
@@ -23,4 +23,4 @@ returns-clause-rises c =
     let whole = c.loop-name.invariant
     ∙ ap (λ (left : List (String Global × Value)). after found (profiles_in (members_view left))) c.in-None.ensures.steps.0 ∙ ap Ok (append-nil found) in
     subst (λ (them : List NamedProfile). Rise (parents_of (map named_of them))) (sym c.from.ensures)
-    (subst (IsStrictlySortedBy (slice_cmp nat_cmp)) (sym (same_names found)) (names_rise c.args.profiles.now.entries found c.into_iter-name-iterator.ensures.into_iter_gives.5 whole))
+    (subst (IsStrictlySortedBy (slice_cmp nat_cmp)) (sym (same_names found)) (names_rise c.args.profiles.entries found c.into_iter-name-iterator.ensures.into_iter_gives.5 whole))

@@ -7,4 +7,4 @@ use Rattle.nextest_config_resolution_load.proofs.reading.read_each.Given as goal
 
 -- the profiles so far, and then those that are ahead
 abbrev pub invariant-loop-name : goal.invariant-loop-name
-invariant-loop-name l = profiles_in (members_view l.profiles.entries) ≡ after (map named_of l.found.items) (profiles_in (members_view l.name-iterator))
+invariant-loop-name l = profiles_in (members_view l.fn.profiles.entries) ≡ after (map named_of l.found.items) (profiles_in (members_view l.name-iterator))

@@ -1,7 +1,8 @@
 use Rattle.std.specs.Prelude.{codes}
 use Rattle.toml.specs.View.{members_view}
 use Rattle.nextest_config_elements_deserialize.specs.Below.{required_by}
-use Rattle.nextest_config_elements_deserialize.proofs.Failing.{fails_on}
+use Rattle.nextest_config_elements_toml.specs.Paths.{texts}
+use Rattle.nextest_config_elements_deserialize.proofs.Failing.{fails_within}
 use Rattle.nextest_config_resolution_commands.specs.Commands.{command_in}
 use Rattle.nextest_config_resolution_scripts.proofs.setup_script.setup_script_in.Goals as goal
 
@@ -15,6 +16,6 @@ returns-in_err-command c =
       c.in_ok-capture_stdout.ensures.read,
       ← c.defaulted-2.ensures.members,
     )
-    (fails_on c.args.path.now c.in_err-command.field-0.0 c.from_residual-in_err-command.result
+    (fails_within (texts c.args.path.now) c.in_err-command.field-0.0 c.from_residual-in_err-command.result
     (required_by (codes "command") command_in (members_view c.defaulted-2.new.members)) _ c.in_err-command.ensures.read
     c.from_residual-in_err-command.ensures.1)
