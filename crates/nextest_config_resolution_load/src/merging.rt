@@ -16,8 +16,8 @@ pub(crate) fn file_over(alloc: Global, file: Table, tree: Table) -> Result<Table
         table_view it ≡ merge (file_with_setup (table_view file)) (table_view tree)) }
 {
     match moved_scripts(alloc, &file)? {
-        None => merge(file, tree),
-        Some(scripts) => merge(merge(scripts, file)?, tree),
+        None => merge(alloc, file, tree),
+        Some(scripts) => merge(alloc, merge(alloc, scripts, file)?, tree),
     }
 }
 

@@ -1,5 +1,5 @@
 -- Tables as maps of their keys: a value that is set, and a table over another, its last key first.
-use Rattle.std.proofs.Common.{ℕ, ◌≡◌, ◌≤◌, true, List, [], ◌∷◌, None, Some, refl, sym, ap, ◌∙◌, subst, cond, Ordering, Less, Equal, Greater, String, Global, string_bytes}
+use Rattle.std.proofs.Common.{ℕ, ◌≡◌, ◌≤◌, true, List, [], ◌∷◌, ◌++◌, Option, None, Some, arith, refl, sym, ap, ◌∙◌, subst, cond, Ordering, Less, Equal, Greater, String, Global, string_bytes}
 use Rattle.std.proofs.Math.Nat.{le-max_left, le-max_right}
 use Rattle.std.proofs.lemmas.Bool.{false≢true}
 use Rattle.std.proofs.lemmas.Cmp.{nat_list_cmp_total}
@@ -13,6 +13,7 @@ use Rattle.std.specs.String.{string_cmp}
 use Rattle.toml.specs.Data.{Data, string, integer, float, boolean, datetime, array, table, Members, no_members, member, get_member, depth, members_depth}
 use Rattle.toml.specs.View.{view, members_view}
 use Rattle.toml.specs.declared.value.Value.{Value}
+use Rattle.nextest_config_resolution_merge.specs.Showing.{IsHidden, Shows}
 use Rattle.nextest_config_resolution_merge.specs.Tree.{over, over_given, merge, with_member}
 use Rattle.nextest_config_resolution_merge.proofs.Keys.{IsBefore, key_cmp, equal_keys, before_less, get_before, get_set, same_key, turned, turned_back}
 
@@ -194,3 +195,92 @@ first_depth pair pairs = le-max_left (depth (view pair.1)) (members_depth (membe
 
 pub rest_depth : (pair : Pair) (pairs : List Pair) → members_depth (members_view pairs) ≤ members_depth (members_view (pair ∷ pairs))
 rest_depth pair pairs = le-max_right (depth (view pair.1)) (members_depth (members_view pairs))
+
+-- ---- values that are hidden
+
+-- one more of them may as well not be there
+pub hidden : (key : List ℕ) (value above : Data) (higher lower : Members) → get_member key higher ≡ Some above → over above (Some value) ≡ above → get_member key lower ≡ None
+    → merge higher (with_member key value lower) ≡ merge higher lower
+hidden key value above no_members lower there same none = absurd (cc)
+hidden key value above (member first old more) lower there same none = by_first (key_cmp key first) refl (hidden key value above more lower) where
+  apart : (order : Ordering) → key_cmp key first ≡ order → get_member first (with_member key value lower) ≡ get_member first lower
+      → merge more (with_member key value lower) ≡ merge more lower → merge (member first old more) (with_member key value lower) ≡ merge (member first old more) lower
+  apart order e kept deeper = rw (kept, deeper) refl
+
+  by_first : (order : Ordering) → key_cmp key first ≡ order
+      → (get_member key more ≡ Some above → over above (Some value) ≡ above → get_member key lower ≡ None → merge more (with_member key value lower) ≡ merge more lower)
+      → merge (member first old more) (with_member key value lower) ≡ merge (member first old more) lower
+  by_first Less e deeper =
+      let behind : get_member key (member first old more) ≡ get_member key more = rw e refl in
+      apart Less e (get_set first key value lower ∙ rw (turned key first e) refl) (deeper (sym behind ∙ there) same none)
+  by_first Greater e deeper =
+      let behind : get_member key (member first old more) ≡ get_member key more = rw e refl in
+      apart Greater e (get_set first key value lower ∙ rw (turned_back key first e) refl) (deeper (sym behind ∙ there) same none)
+  by_first Equal e deeper =
+      let one : key ≡ first = equal_keys key first e in
+      let here : get_member key (member first old more) ≡ Some old = rw e refl in
+      let is : old ≡ above = (let both = sym here ∙ there in cc) in
+      subst (λ (it : List ℕ). merge (member it old more) (with_member key value lower) ≡ merge (member it old more) lower) one
+      (subst (λ (it : Data). merge (member key it more) (with_member key value lower) ≡ merge (member key it more) lower) (sym is) at_key)
+    where
+      at_key : merge (member key above more) (with_member key value lower) ≡ merge (member key above more) lower
+      at_key =
+          let found : get_member key (with_member key value lower) ≡ Some value = get_set key key value lower ∙ rw (same_key key) refl in
+          rw (found, same, none, over_none above, lower_set key value more lower)
+          (set_twice key above (over_given (get_member key more) value) (merge more lower))
+
+-- the keys of a table, of which one is left out
+module _ (P : String Global → Type 0) where
+  at_one : (front : List Pair) (pair : Pair) (rest : List Pair) → AllByRecursion P (keys_of (front ++ pair ∷ rest)) → P pair.0
+  at_one [] pair rest all = all.0
+  at_one (first ∷ front) pair rest all = at_one front pair rest all.1
+
+  but_one : (front : List Pair) (pair : Pair) (rest : List Pair) → AllByRecursion P (keys_of (front ++ pair ∷ rest)) → AllByRecursion P (keys_of (front ++ rest))
+  but_one [] pair rest all = all.1
+  but_one (first ∷ front) pair rest all = (all.0, but_one front pair rest all.1)
+
+pub rise_without : (front : List Pair) (pair : Pair) (rest : List Pair) → IsStrictlySortedBy string_cmp (keys_of (front ++ pair ∷ rest)) → IsStrictlySortedBy string_cmp (keys_of (front ++ rest))
+unfolding IsStrictlySortedBy
+rise_without [] pair rest rise = rise.1
+rise_without (first ∷ front) pair rest rise = (but_one (λ (other : String Global). string_cmp first.0 other ≡ Less) front pair rest rise.0, rise_without front pair rest rise.1)
+
+-- its member is one that is set, and there is no other of its key
+pub set_between : (front : List Pair) (key : String Global) (value : Value) (rest : List Pair) → IsStrictlySortedBy string_cmp (keys_of (front ++ (key, value) ∷ rest))
+    → members_view (front ++ (key, value) ∷ rest) ≡ with_member (string_bytes key) (view value) (members_view (front ++ rest))
+unfolding IsStrictlySortedBy
+set_between [] key value rest rise = sym (set_first (string_bytes key) (view value) (members_view rest) (before_keys key rest rise.0))
+set_between (first ∷ front) key value rest rise =
+    let behind : key_cmp (string_bytes key) (string_bytes first.0) ≡ Greater =
+    turned (string_bytes first.0) (string_bytes key) (at_one (λ (other : String Global). string_cmp first.0 other ≡ Less) front (key, value) rest rise.0) in
+    rw (behind, set_between front key value rest rise.1) refl
+
+pub none_between : (front : List Pair) (key : String Global) (value : Value) (rest : List Pair) → IsStrictlySortedBy string_cmp (keys_of (front ++ (key, value) ∷ rest))
+    → get_member (string_bytes key) (members_view (front ++ rest)) ≡ None
+unfolding IsStrictlySortedBy
+none_between [] key value rest rise = get_before (string_bytes key) (members_view rest) (before_keys key rest rise.0)
+none_between (first ∷ front) key value rest rise =
+    let behind : key_cmp (string_bytes key) (string_bytes first.0) ≡ Greater =
+    turned (string_bytes first.0) (string_bytes key) (at_one (λ (other : String Global). string_cmp first.0 other ≡ Less) front (key, value) rest rise.0) in
+    rw behind (none_between front key value rest rise.1)
+
+pub shallow_without : (front : List Pair) (pair : Pair) (rest : List Pair) → members_depth (members_view (front ++ rest)) ≤ members_depth (members_view (front ++ pair ∷ rest))
+shallow_without [] pair rest = rest_depth pair rest
+shallow_without (first ∷ front) pair rest = let deeper = shallow_without front pair rest in omega (arith, deeper)
+
+-- what shows, without a value that is hidden
+pub one_hidden : (higher : Members) (all front : List Pair) (key : String Global) (value : Value) (rest : List Pair) → IsHidden (get_member (string_bytes key) higher) (view value)
+    → Shows higher all (front ++ (key, value) ∷ rest) → Shows higher all (front ++ rest)
+one_hidden higher all front key value rest is shows =
+    let rise = shows.rises in record {
+      whole =
+          by_found (get_member (string_bytes key) higher) refl is (members_view (front ++ rest)) (none_between front key value rest rise)
+          ∙ sym (ap (merge higher) (set_between front key value rest rise))
+          ∙ shows.whole;
+      rises = rise_without front (key, value) rest rise;
+      shallow = let less = shallow_without front (key, value) rest in omega (arith, less, shows.shallow);
+    }
+  where
+    by_found : (found : Option Data) → get_member (string_bytes key) higher ≡ found → IsHidden found (view value) → (lower : Members) → get_member (string_bytes key) lower ≡ None
+        → merge higher lower ≡ merge higher (with_member (string_bytes key) (view value) lower)
+    by_found None e is lower none = absurd is
+    by_found (Some above) e is lower none = sym (hidden (string_bytes key) (view value) above higher lower e is none)

@@ -1,3 +1,4 @@
 pub mod Laws
 pub mod Merged
 pub mod Tree
+pub mod Showing

@@ -1,35 +1,68 @@
 // A table over another.
-ghost use Rattle.std.specs.Prelude.{◌≡◌, Some, IfOk, OnOk, string_bytes};
+ghost use Rattle.std.specs.Prelude.{◌≡◌, Some, true, option_map, IfOk, OnOk, string_bytes};
 ghost use Rattle.toml.specs.Data.{get_member, table};
 ghost use Rattle.toml.specs.View.{table_view, view};
+ghost use Rattle.nextest_config_resolution_merge.specs.Showing.{IsHidden, Shows};
 ghost use Rattle.nextest_config_resolution_merge.specs.Tree.{merge, over, over_given, with_member};
 
-use std::alloc::AllocError;
+use nextest_config_elements_toml::TableMembers;
+use std::alloc::{AllocError, Global};
 use std::mem;
 use toml::{Table, Value};
 
 /// The table of `higher` over `lower`: tables that both have at a key are joined likewise, and
-/// else what `higher` has there hides what `lower` has. Values move, and no text is copied. It
-/// takes a look-up in `higher` for each key of `lower`, and what is hidden is given back.
+/// else what `higher` has there hides what `lower` has. Values move, and no text is copied. Both
+/// tables are walked over together, and of what `lower` has only what shows is looked up and kept.
 ///
 /// # Errors
 ///
 /// It fails only on allocation, and both tables are gone then.
 #[cycle(merge)]
-pub fn merge(higher: Table, lower: Table) -> Result<Table, AllocError>
+pub fn merge(alloc: Global, higher: Table, lower: Table) -> Result<Table, AllocError>
     ensures { IfOk result (λ it. table_view it ≡ merge (table_view higher) (table_view lower)) }
 {
+    let shown = showing(alloc, &higher, lower)?;
     let mut merged = higher;
-    for (key, value) in lower {
-        put_under(&mut merged, key, value)?;
+    for (key, value) in shown {
+        put_under(alloc, &mut merged, key, value)?;
     }
     let _keys = merged.len();
     Ok(merged)
 }
 
+// What a table has that another doesn't hide, in the order of the keys.
+fn showing(alloc: Global, higher: &Table, lower: Table) -> Result<Vec<(String, Value)>, AllocError>
+    ensures { IfOk result (λ it. Shows (table_view higher.now) lower.entries it.items) }
+{
+    let mut members = TableMembers::new(higher);
+    let mut shown = Vec::new(alloc);
+    for (key, value) in lower {
+        if !is_hidden(members.get(&key), &value) {
+            shown.push((key, value))?;
+        }
+    }
+    Ok(shown)
+}
+
+// Whether a value is hidden by what stands above it, if something does: only a table under a table
+// shows.
+fn is_hidden(above: Option<&Value>, value: &Value) -> bool
+    ensures { result ≡ true
+        → IsHidden (option_map (λ it. view it.now) above.entry) (view value.now) }
+{
+    match above {
+        None => false,
+        Some(Value::Table(_)) => match value {
+            Value::Table(_) => false,
+            _ => true,
+        },
+        Some(_) => true,
+    }
+}
+
 // Puts a value at a key of a table, under what stands there.
 #[cycle(merge)]
-fn put_under(table: &mut Table, key: String, value: Value) -> Result<(), AllocError>
+fn put_under(alloc: Global, table: &mut Table, key: String, value: Value) -> Result<(), AllocError>
     ensures { OnOk result (table_view table.new ≡ with_member (string_bytes key)
         (over_given (get_member (string_bytes key) (table_view table.old)) (view value))
         (table_view table.old)) }
@@ -38,30 +71,30 @@ fn put_under(table: &mut Table, key: String, value: Value) -> Result<(), AllocEr
         table.insert(key, value)?;
         return Ok(());
     };
-    value_under(above, value)
+    value_under(alloc, above, value)
 }
 
 // Puts a value under another: only a table under a table shows.
 #[cycle(merge)]
-fn value_under(higher: &mut Value, lower: Value) -> Result<(), AllocError>
+fn value_under(alloc: Global, higher: &mut Value, lower: Value) -> Result<(), AllocError>
     ensures { OnOk result (view higher.new ≡ over (view higher.old) (Some (view lower))) }
 {
     let Value::Table(lower) = lower else {
         return Ok(());
     };
     let above = mem::replace(higher, Value::Boolean(false));
-    *higher = table_under(above, lower)?;
+    *higher = table_under(alloc, above, lower)?;
     Ok(())
 }
 
 // A value over a table.
 #[cycle(merge)]
-fn table_under(higher: Value, lower: Table) -> Result<Value, AllocError>
+fn table_under(alloc: Global, higher: Value, lower: Table) -> Result<Value, AllocError>
     ensures { IfOk result
         (λ it. view it ≡ over (view higher) (Some (table (table_view lower)))) }
 {
     match higher {
-        Value::Table(higher) => Ok(Value::Table(merge(higher, lower)?)),
+        Value::Table(higher) => Ok(Value::Table(merge(alloc, higher, lower)?)),
         leaf => Ok(leaf),
     }
 }

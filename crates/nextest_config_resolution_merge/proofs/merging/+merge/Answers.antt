@@ -1,4 +1,5 @@
-use Rattle.std.proofs.Common.{◌≡◌, List, Option, Ok, Err, Result, Some, None, is_some, option_map, sym, ap, ◌∙◌, subst, arith, String, Global, string_bytes}
+use Rattle.std.proofs.Common.{◌≡◌, List, [], Option, Ok, Err, Result, Some, None, is_some, option_map, sym, ap, ◌∙◌, subst, arith, String, Global, string_bytes}
+use Rattle.std.proofs.lemmas.List.{nil_from_length}
 use Rattle.std.specs.Prelude.{OnOk}
 use Rattle.std.specs.BTreeMap.{BTreeMap, insert_entry}
 use Rattle.std.specs.Option.{option_copied_mut}
@@ -16,25 +17,26 @@ use Rattle.nextest_config_resolution_merge.proofs.merging.+merge.Goals as goal
 pub merge-loop-key-init : goal.merge-loop-key-init
 merge-loop-key-init t c =
     let all = c.into_iter-key-iterator.ensures.into_iter_gives in
+    let shows = c.in_ok-shown.ensures in
     record {
-      whole = ap (λ (pairs : List Pair). merge (table_view c.args.higher) (members_view pairs)) all.0;
-      rises = subst (λ (pairs : List Pair). IsStrictlySortedBy string_cmp (keys_of pairs)) (sym all.0) all.5;
-      shallow = let same = ap (λ (pairs : List Pair). members_depth (members_view pairs)) all.0 in omega (arith, same);
+      whole = ap (λ (pairs : List Pair). merge (table_view c.args.higher) (members_view pairs)) all.0 ∙ shows.whole;
+      rises = subst (λ (pairs : List Pair). IsStrictlySortedBy string_cmp (keys_of pairs)) (sym all.0) shows.rises;
+      shallow = let same = ap (λ (pairs : List Pair). members_depth (members_view pairs)) all.0 in omega (arith, same, shows.shallow);
     }
 
 pub merge-put_under-requires : goal.merge-put_under-requires
 merge-put_under-requires t c =
-    let within = first_depth (c.in-Some.key, c.in-Some.value) c.next.new.self in
-    let all = ap (λ (pairs : List Pair). members_depth (members_view pairs)) c.in-Some.ensures.steps in
+    let within = first_depth (c.in-Some.key, c.in-Some.value) c.next.new.self.rest.items in
+    let all = ap (λ (pairs : List Pair). members_depth (members_view pairs)) c.in-Some.ensures.steps.0 in
     (omega (arith, within, all, c.loop-key.invariant.shallow), tt)
 
 pub merge-loop-key-preserved : goal.merge-loop-key-preserved
 unfolding IsStrictlySortedBy
 merge-loop-key-preserved t c =
     let pair : Pair = (c.in-Some.key, c.in-Some.value) in
-    let left = c.next.new.self in
+    let left = c.next.new.self.rest.items in
     let merged = table_view c.loop-key.merged in
-    let all = c.in-Some.ensures.steps in
+    let all = c.in-Some.ensures.steps.0 in
     let rises = subst (λ (pairs : List Pair). IsStrictlySortedBy string_cmp (keys_of pairs)) all c.loop-key.invariant.rises in
     record {
       whole =
@@ -51,8 +53,10 @@ merge-loop-key-preserved t c =
 
 pub merge-returns : goal.merge-returns
 merge-returns t c =
+    let left = c.loop-key.key-iterator.rest in
+    let none : left.items ≡ [] = nil_from_length left.items (sym left.ok.0 ∙ c.in-None.ensures.steps.0) in
     sym (over_nothing c.loop-key.merged.entries c.len-keys.ensures.ordered)
-    ∙ sym (ap (λ (pairs : List Pair). merge (table_view c.loop-key.merged) (members_view pairs)) c.in-None.ensures.steps.0)
+    ∙ sym (ap (λ (pairs : List Pair). merge (table_view c.loop-key.merged) (members_view pairs)) none)
     ∙ c.loop-key.invariant.whole
 
 pub put_under-returns-in_default : goal.put_under-returns-in_default

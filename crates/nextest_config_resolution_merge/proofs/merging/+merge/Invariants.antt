@@ -10,9 +10,9 @@ use Rattle.nextest_config_resolution_merge.proofs.merging.+merge.Given as goal
 -- what was merged so far, over what is left of the lower table; its keys rise, and it is no deeper
 abbrev pub invariant-merge-loop-key : goal.invariant-merge-loop-key
 invariant-merge-loop-key l = record {
-  whole : merge (table_view l.merged) (members_view l.key-iterator) ≡ merge (table_view l.fn.higher) (table_view l.fn.lower);
-  rises : IsStrictlySortedBy string_cmp (keys_of l.key-iterator);
-  shallow : members_depth (members_view l.key-iterator) ≤ members_depth (table_view l.fn.lower);
+  whole : merge (table_view l.merged) (members_view l.key-iterator.rest.items) ≡ merge (table_view l.fn.higher) (table_view l.fn.lower);
+  rises : IsStrictlySortedBy string_cmp (keys_of l.key-iterator.rest.items);
+  shallow : members_depth (members_view l.key-iterator.rest.items) ≤ members_depth (table_view l.fn.lower);
 }
 
 -- by how deep the lower one is
