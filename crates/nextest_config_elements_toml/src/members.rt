@@ -98,7 +98,11 @@ impl<'a> Walk<'a> {
         while let Some((name, value)) = self.next {
             match key.cmp(name.as_str()) {
                 Ordering::Less => return None,
-                Ordering::Equal => return Some(value),
+                Ordering::Equal => {
+                    self.passed = Some(name);
+                    self.next = self.rest.next();
+                    return Some(value);
+                }
                 Ordering::Greater => {
                     self.passed = Some(name);
                     self.next = self.rest.next();

@@ -52,10 +52,7 @@ fn is_hidden(above: Option<&Value>, value: &Value) -> bool
 {
     match above {
         None => false,
-        Some(Value::Table(_)) => match value {
-            Value::Table(_) => false,
-            _ => true,
-        },
+        Some(Value::Table(_)) => !matches!(value, Value::Table(_)),
         Some(_) => true,
     }
 }

@@ -15,7 +15,9 @@ returns-in-Less-clause-found c all is before =
     (ap (slice_cmp nat_cmp c.args.key.now) (sym c.as_str.ensures.value) ∙ sym c.cmp.ensures ∙ c.in-Less.is) (c.loop-self.invariant.0 all is)
 
 pub returns-in-Equal-clause-walk : goal.returns-in-Equal-clause-walk
-returns-in-Equal-clause-walk c all is = c.loop-self.invariant.0 all is
+returns-in-Equal-clause-walk c all is =
+    moved all c.loop-self.self (c.in-Some.name, c.in-Some.value) c.next-self.result c.next-self.new.self c.in-Some.is c.next-self.ensures.steps
+    (c.loop-self.invariant.0 all is)
 
 pub returns-in-Equal-clause-found : goal.returns-in-Equal-clause-found
 returns-in-Equal-clause-found c all is before =
@@ -23,12 +25,12 @@ returns-in-Equal-clause-found c all is before =
     (ap (slice_cmp nat_cmp c.args.key.now) (sym c.as_str.ensures.value) ∙ sym c.cmp.ensures ∙ c.in-Equal.is) (c.loop-self.invariant.0 all is)
 
 pub loop-self-smaller : goal.loop-self-smaller
-loop-self-smaller c = fewer c.loop-self.self (c.in-Some.name, c.in-Some.value) c.next-self.result c.next-self.new.self c.in-Some.is c.next-self.ensures.steps
+loop-self-smaller c = fewer c.loop-self.self (c.in-Some.name, c.in-Some.value) c.next-self-in-Greater.result c.next-self-in-Greater.new.self c.in-Some.is c.next-self-in-Greater.ensures.steps
 
 pub loop-self-preserved : goal.loop-self-preserved
 loop-self-preserved c = (
-  (λ all is. moved all c.loop-self.self (c.in-Some.name, c.in-Some.value) c.next-self.result c.next-self.new.self c.in-Some.is
-      c.next-self.ensures.steps (c.loop-self.invariant.0 all is)),
+  (λ all is. moved all c.loop-self.self (c.in-Some.name, c.in-Some.value) c.next-self-in-Greater.result c.next-self-in-Greater.new.self c.in-Some.is
+      c.next-self-in-Greater.ensures.steps (c.loop-self.invariant.0 all is)),
   λ before. not_passed c.in-Some.name c.args.key.now (ap (slice_cmp nat_cmp c.args.key.now) (sym c.as_str.ensures.value) ∙ sym c.cmp.ensures ∙ c.in-Greater.is),
 )
 
