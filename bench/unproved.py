@@ -1,5 +1,5 @@
 #!/usr/bin/env python3
-"""Builds a program with nothing proved, so that its instructions and cache misses can be counted some four minutes after an edit.
+"""Builds a program with nothing proved, so that its instructions and cache misses can be counted some five minutes after an edit.
 
     python3 bench/unproved.py CRATE TO
 
