@@ -114,8 +114,8 @@ fn read_profiles(alloc: Global, table: &Table) -> Result<Listing<ProfileRules>, 
     }
 }
 
-// Each profile of a table. The last one is read first: what the end of a table was made of is still
-// at hand when its text was just read.
+// Each profile of a table, the last one first: of a long text that was just read as TOML, the end is
+// what a cache still has.
 fn read_each(alloc: Global, profiles: &Table) -> Result<Listing<ProfileRules>, ValueError>
     ensures { GivesAt (codes "profile" ∷ []) result (profiles_in_file (table_view profiles.now)) }
 {
@@ -129,7 +129,7 @@ fn read_each(alloc: Global, profiles: &Table) -> Result<Listing<ProfileRules>, V
     Ok(Listing::from(found))
 }
 
-// A profile before those that were read, of which the last one is the first here.
+// What was read of a profile before what was read of those behind it, which stand in reverse.
 fn before(
     one: Result<ProfileRules, ValueError>,
     read: Result<Vec<ProfileRules>, ValueError>,

@@ -21,7 +21,7 @@ use std::alloc::Global;
 use toml::{Table, Value};
 
 // What a tree says of profiles, scripts, the store and groups. Each profile is dropped once it is
-// read, while its memory is at hand, so all else is read before.
+// read, while a cache still has it, so all else is read before them.
 pub(crate) fn read_config(alloc: Global, tree: Table) -> Result<ReadConfig, ValueError>
     ensures read { GivesSeen values_of result (config_in (table_view tree)) }
     ensures rises { IfOk result (λ it. Rise (parents_of (values_of it).profiles)) }
