@@ -3,6 +3,7 @@ use Rattle.std.proofs.Common.{◌≡◌, ◌<◌, ℕ, length, arith, true, fals
 use Rattle.std.specs.Prelude.{option_copied}
 use Rattle.std.proofs.lemmas.Bool.{true≢false}
 use Rattle.std.proofs.lemmas.Cmp.{nat_list_cmp_total}
+use Rattle.std.proofs.lemmas.Map.Lookups.{exact_bytes}
 use Rattle.std.specs.Cmp.Lexicographic.{slice_cmp}
 use Rattle.std.specs.List.{AllByRecursion}
 use Rattle.std.specs.List.Sorted.{IsStrictlySortedBy}
@@ -61,6 +62,19 @@ ordered (Some passed) first more key rises greater = rw (above key (string_bytes
         let back : slice_cmp nat_cmp high key ≡ Less = nat_list_cmp_total.antisymm high key ∙ ap ordering_reverse greater in
         nat_list_cmp_total.antisymm key low ∙ ap ordering_reverse (nat_list_cmp_total.trans low high key less back)
 
+-- the key where it stands isn't passed
+unpassed_at : (passed : Option (Bor (String Global))) (first : String Global) (more : List (String Global)) (key : List ℕ)
+    → IsStrictlySortedBy string_cmp (option_to_list (option_copied passed) ++ first ∷ more) → slice_cmp nat_cmp key (string_bytes first) ≡ Equal
+    → is_passed passed key ≡ false
+unfolding IsStrictlySortedBy
+unpassed_at None first more key rises equal = refl
+unpassed_at (Some passed) first more key rises equal = rw (above key (string_bytes passed.now) (string_bytes first) rises.0.0 equal)
+  where
+    above : (key low high : List ℕ) → slice_cmp nat_cmp low high ≡ Less → slice_cmp nat_cmp key high ≡ Equal → slice_cmp nat_cmp key low ≡ Greater
+    above key low high less equal =
+        let same : key ≡ high = exact_bytes key high equal in
+        nat_list_cmp_total.antisymm key low ∙ ap ordering_reverse (ap (slice_cmp nat_cmp low) same ∙ less)
+
 tail_rises : (passed : Option (Bor (String Global))) (left : List (String Global)) → IsStrictlySortedBy string_cmp (option_to_list (option_copied passed) ++ left)
     → IsStrictlySortedBy string_cmp left
 unfolding IsStrictlySortedBy
@@ -98,16 +112,14 @@ moved all walk first next rest stands took is =
         → get_member key (members_view more) ≡ get_member key (members_view ((name, value) ∷ more))
     skipped key name value more greater = rw greater
 
--- a key that it is at once past the one where it stands isn't passed
-pub not_passed : (passed : Bor (String Global)) (key : List ℕ) → slice_cmp nat_cmp key (string_bytes passed.now) ≡ Greater → is_passed (Some passed) key ≡ false
-not_passed passed key greater = rw greater
-
 -- the key where it stands
-pub found : (all : List Entry) (walk : Walk) (first : Lent) (key : List ℕ) → walk.next ≡ Some first → is_passed walk.passed key ≡ false
+pub found : (all : List Entry) (walk : Walk) (first : Lent) (key : List ℕ) → walk.next ≡ Some first
     → slice_cmp nat_cmp key (string_bytes first.0.now) ≡ Equal → IsWalk all walk → Some (view first.1.now) ≡ get_member key (members_view all)
-found all walk first key stands before equal is =
+found all walk first key stands equal is =
+    let left : List Entry = (first.0.now, first.1.now) ∷ walk.rest in
+    let same : ahead walk.next walk.rest ≡ left = standing walk first stands in
     at_head key first.0.now first.1.now walk.rest equal
-    ∙ told all walk ((first.0.now, first.1.now) ∷ walk.rest) is (standing walk first stands) key before
+    ∙ told all walk left is same key (unpassed_at walk.passed first.0.now (keys_of walk.rest) key (rising all walk left is same) equal)
   where
     at_head : (key : List ℕ) (name : String Global) (value : Value) (more : List Entry) → slice_cmp nat_cmp key (string_bytes name) ≡ Equal
         → Some (view value) ≡ get_member key (members_view ((name, value) ∷ more))

@@ -8,7 +8,7 @@ use Rattle.std.specs.Ordering.{match_ordering, nat_cmp}
 use Rattle.std.specs.Global.{Global}
 use Rattle.std.specs.String.{string_cmp}
 use denote.Ref.{Bor}
-use Rattle.toml.specs.Data.{get_member}
+use Rattle.toml.specs.Data.{Data, get_member}
 use Rattle.toml.specs.View.{members_view}
 use Rattle.toml.specs.declared.value.Value.{Value}
 use Rattle.nextest_config_elements_toml.specs.declared.members.Walk.{Walk}
@@ -33,3 +33,9 @@ pub record IsWalk (all : List Entry) (walk : Walk) : Type 0 where
   pub tells : (key : List ℕ) → is_passed walk.passed key ≡ false
       → get_member key (members_view (ahead walk.next walk.rest)) ≡ get_member key (members_view all)
   pub ascends : IsStrictlySortedBy string_cmp (option_to_list (option_copied walk.passed) ++ keys_of (ahead walk.next walk.rest))
+
+-- what a walk that is past some key found under another: what stands there among all members, or
+-- nothing, and nothing stands there unless the walk is past it
+abbrev pub IsAhead : List Entry → Option (Bor (String Global)) → List ℕ → Option Data → Type 0
+IsAhead all passed key (Some it) = Some it ≡ get_member key (members_view all)
+IsAhead all passed key None = is_passed passed key ≡ false → None ≡ get_member key (members_view all)

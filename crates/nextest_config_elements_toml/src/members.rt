@@ -1,8 +1,8 @@
 // Members of a table that are asked for in the order of their keys.
-ghost use Rattle.std.specs.Prelude.{◌≡◌, List, false, option_map};
+ghost use Rattle.std.specs.Prelude.{◌≡◌, List, option_map};
 ghost use Rattle.toml.specs.Data.{get_member};
 ghost use Rattle.toml.specs.View.{members_view, table_view, view};
-ghost use Rattle.nextest_config_elements_toml.specs.Walks.{Entry, IsWalk, is_passed};
+ghost use Rattle.nextest_config_elements_toml.specs.Walks.{Entry, IsAhead, IsWalk, is_passed};
 
 use crate::table::member;
 use std::cmp::Ordering;
@@ -67,10 +67,11 @@ impl<'a> TableMembers<'a> {
             ≡ get_member key.now (members_view self.old) }
         ensures members { members_view self.new ≡ members_view self.old }
     {
-        if self.walk.is_past(key) {
-            return member(self.table, key);
+        match self.walk.go_to(key) {
+            Some(value) => Some(value),
+            None if self.walk.is_past(key) => member(self.table, key),
+            None => None,
         }
-        self.walk.go_to(key)
     }
 }
 
@@ -88,12 +89,11 @@ impl<'a> Walk<'a> {
         }
     }
 
-    // What stands under a key that it isn't past.
+    // What stands under a key, if that is ahead.
     fn go_to(&mut self, key: &str) -> Option<&'a Value>
         ensures walk { (all : List Entry) → IsWalk all self.old → IsWalk all self.new }
         ensures found { (all : List Entry) → IsWalk all self.old
-            → is_passed self.old.passed key.now ≡ false
-            → option_map (λ it. view it.now) result ≡ get_member key.now (members_view all) }
+            → IsAhead all self.new.passed key.now (option_map (λ it. view it.now) result) }
     {
         while let Some((name, value)) = self.next {
             match key.cmp(name.as_str()) {

@@ -1,18 +1,24 @@
 -- How a file is read, profile by profile.
-use Rattle.std.proofs.Common.{◌≡◌, ℕ, List, [], ◌∷◌, ◌++◌, Result, Ok, Err, String, Vec, Global, nat_cmp, refl, sym, ap, ◌∙◌}
+use Rattle.std.proofs.Common.{◌≡◌, ℕ, List, [], ◌∷◌, ◌++◌, Result, Ok, Err, String, Vec, Global, nat_cmp, string_bytes, refl, sym, ap, ◌∙◌, subst, append_assoc}
+use Rattle.std.specs.List.Sorted.{IsStrictlySortedBy}
+use Rattle.std.specs.Map.{keys_of}
+use Rattle.std.specs.String.{string_cmp}
 use Rattle.std.specs.Cmp.Lexicographic.{slice_cmp}
 use Rattle.std.specs.Ordering.{match_ordering}
 use Rattle.std.specs.declared.cmp.Ordering.{Ordering}
 use Rattle.std.specs.declared.cmp.Ordering.TheVariants.{Less, Equal, Greater}
-use Rattle.toml.specs.View.{members_view}
+use Rattle.toml.specs.Data.{Members, get_member}
+use Rattle.toml.specs.View.{members_view, view}
 use Rattle.toml.specs.declared.value.Value.{Value}
-use Rattle.nextest_config_elements_toml.specs.Paths.{at}
+use Rattle.nextest_config_elements_toml.specs.Paths.{GivesAt, at}
 use Rattle.nextest_config_elements_toml.specs.Reading.{Path, Reading}
 use Rattle.nextest_config_elements_toml.specs.declared.bad_value.BadValue.{BadValue}
 use Rattle.nextest_config_elements_toml.specs.declared.value_error.ValueError.{ValueError}
 use Rattle.nextest_config_elements_deserialize.specs.Paths.{profile_path}
-use Rattle.nextest_config_resolution_load.specs.File.{by_keys, first_key, first_path, profiles_in_file}
-use Rattle.nextest_config_resolution_load.specs.Reading.{GivesBackward, refused_values, third}
+use Rattle.nextest_config_resolution_load.specs.File.{by_keys, first_key, first_path, profiles_in_file, rules_of_profile}
+use Rattle.nextest_config_resolution_load.specs.Reading.{GivesBackward, IsPutBefore, refused_values, third}
+use Rattle.nextest_config_resolution_merge.specs.Tree.{merge, over, with_member}
+use Rattle.nextest_config_resolution_load.proofs.Taken.{put_first}
 use Rattle.nextest_config_resolution_load.specs.declared.file_config.ProfileRules.{ProfileRules}
 
 -- ---- profiles, the last one first
@@ -21,11 +27,27 @@ use Rattle.nextest_config_resolution_load.specs.declared.file_config.ProfileRule
 abbrev pub Entry : Type 0
 Entry = String Global × Value
 
--- those that a loop from the end has read, of all and with those that are left
-pub record ReadBackward (all left : List Entry) (read : Result (Vec ProfileRules Global) ValueError) : Type 0 where
+-- those that a loop from the end has read, and put over lower ones, of all and with those that are
+-- left
+pub record PutBackward (all left : List Entry) (lower now : Members) (read : Result (Vec ProfileRules Global) ValueError) : Type 0 where
   pub behind : List Entry
   pub whole : all ≡ left ++ behind
   pub gives : GivesBackward read (profiles_in_file (members_view behind))
+  pub puts : now ≡ merge (members_view behind) lower
+
+-- one more
+pub put_one : (all left : List Entry) (entry : Entry) (lower now new : Members) (one : Result ProfileRules ValueError) (read result : Result (Vec ProfileRules Global) ValueError)
+    → IsStrictlySortedBy string_cmp (keys_of all) → PutBackward all (left ++ entry ∷ []) lower now read
+    → GivesAt (profile_path (string_bytes entry.0)) one (rules_of_profile (string_bytes entry.0) (view entry.1)) → IsPutBefore one read result
+    → new ≡ with_member (string_bytes entry.0) (over (view entry.1) (get_member (string_bytes entry.0) now)) now → PutBackward all left lower new result
+put_one all left entry lower now new one read result rise is reads put sets =
+    let whole : all ≡ left ++ (entry ∷ is.behind) = is.whole ∙ append_assoc left (entry ∷ []) is.behind in
+    record {
+      behind = entry ∷ is.behind;
+      whole = whole;
+      gives = put (string_bytes entry.0) (rules_of_profile (string_bytes entry.0) (view entry.1)) (profiles_in_file (members_view is.behind)) reads is.gives;
+      puts = put_first left entry is.behind lower now new (subst (λ (it : List Entry). IsStrictlySortedBy string_cmp (keys_of it)) whole rise) is.puts sets;
+    }
 
 -- ---- two values that are refused in one profile
 

@@ -11,4 +11,5 @@ pub mod ProfileReading
 pub mod Profiles
 pub mod SomeLoad
 pub mod Sources
+pub mod Taken
 pub mod Tops

@@ -4,6 +4,7 @@ pub mod Kinds
 pub mod Languages
 pub mod Laws
 pub mod Load
+pub mod Merging
 pub mod Reading
 pub mod Refusal
 pub mod Refusing

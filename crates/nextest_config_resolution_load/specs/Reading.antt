@@ -1,5 +1,5 @@
 -- What calls of this crate give on their way to a configuration.
-use Rattle.std.specs.Prelude.{◌≡◌, ℕ, Bool, not, List, [], ◌∷◌, ◌++◌, Vec, codes, get_or, map, reverse, filter_map, Option, None, Some, option_map, Result, Ok, Err, ⊤}
+use Rattle.std.specs.Prelude.{◌≡◌, ℕ, Bool, not, List, [], ◌∷◌, ◌++◌, Vec, codes, get_or, map, reverse, filter_map, Option, None, Some, option_to_list, Result, Ok, Err, ⊤}
 use Rattle.std.specs.BTreeSet.{BTreeSet, contains_by}
 use Rattle.std.specs.Cmp.Lexicographic.{slice_cmp}
 use Rattle.std.specs.Global.{Global}
@@ -114,9 +114,9 @@ ParsesText view path given (Ok it) = given ≡ Some (view it)
 ParsesText view path given (Err (told_error.Refused told)) = (given ≡ None) × (reason_of told ≡ no_toml path)
 ParsesText view path given (Err told_error.OutOfMemory) = ⊤
 
--- what was read of the file at a path, if there is one: its members, and its overrides
-pub record IsReadFile {F S : Type 0} (Is : IsFilterBy F) (IsSpec : IsSpecBy S) (path : List ℕ) (given : Option Members) (it : ReadFile F S) : Type 0 where
-  pub table : given ≡ option_map table_view it.table
+-- what was read of the file at a path, if there is one: what it comes to over a tree, and its rules
+pub record IsReadFile {F S : Type 0} (Is : IsFilterBy F) (IsSpec : IsSpecBy S) (path : List ℕ) (given : Option Members) (lower : Members) (it : ReadFile F S) : Type 0 where
+  pub tree : table (table_view it.tree) ≡ tree_of_files (table lower) (map file_with_setup (option_to_list given))
   pub rules : AreReadInFile Is IsSpec (rules_in path given) it.rules
 
 -- what was read of some sources: what their files come to over what is built in, and their rules

@@ -1,22 +1,28 @@
-// How a file is read, key by key.
-ghost use Rattle.std.specs.Prelude.{◌≡◌, ◌++◌, [], ◌∷◌, codes};
+// How a file is read, key by key, and put over lower ones.
+ghost use Rattle.std.specs.Prelude.{◌≡◌, ◌++◌, [], ◌∷◌, codes, Option, Some, option_map, OnOk};
 ghost use Rattle.std.specs.Cmp.Lexicographic.{slice_cmp};
 ghost use Rattle.std.specs.Ordering.{match_ordering, nat_cmp};
+ghost use Rattle.toml.specs.Data.{Data, table};
 ghost use Rattle.toml.specs.View.{table_view, view};
 ghost use Rattle.nextest_config_elements_toml.specs.Paths.{Gives, GivesAt};
-ghost use Rattle.nextest_config_elements_toml.specs.Reading.{Path};
+ghost use Rattle.nextest_config_elements_toml.specs.Reading.{Path, under};
 ghost use Rattle.nextest_config_resolution_load.specs.Reading.{IsPutBefore, refused_values, third};
 ghost use Rattle.nextest_config_elements_deserialize.specs.Keys.{table_by};
 ghost use Rattle.nextest_config_elements_deserialize.specs.Paths.{profile_path};
 ghost use Rattle.nextest_config_elements_versions.specs.Demand as demand;
-ghost use Rattle.nextest_config_resolution_load.specs.File.{by_keys, check_of, file_in, profiles_at_file, profiles_in_file, rules_in_profile, rules_in_table, rules_of_profile};
+ghost use Rattle.nextest_config_resolution_load.specs.Checks.{file_with_setup};
+ghost use Rattle.nextest_config_resolution_load.specs.File.{by_keys, check_of, file_in, profiles_at_file, profiles_in_file, profiles_of_file, rules_in_profile, rules_in_table, rules_of_profile};
+ghost use Rattle.nextest_config_resolution_load.specs.Merging.{members_at, with_given};
+ghost use Rattle.nextest_config_resolution_merge.specs.Tree.{merge, over};
 ghost use Rattle.nextest_config_resolution_overrides.specs.Groups.{groups_at};
 ghost use Rattle.nextest_config_resolution_scripts.specs.Scripts.{old_scripts_at, scripts_at};
 ghost use Rattle.nextest_config_resolution_values.specs.File.{store_dir_at};
 
 use crate::file_config::{FileConfig, ProfileRules};
+use crate::merging::{file_over, table_at, take_out};
 use nextest_config_elements_toml::{BadValue, ValueError, member, refused};
 use nextest_config_elements_versions::{deserialize_experimental, deserialize_nextest_version};
+use nextest_config_resolution_merge::put_over;
 use nextest_config_resolution_overrides::{
     NamedGroup, OverrideConfig, deserialize_overrides, deserialize_test_groups,
 };
@@ -28,21 +34,34 @@ use nextest_config_resolution_values::{deserialize_profile, deserialize_store_di
 use nextest_text::{Listing, Text};
 use std::alloc::Global;
 use std::cmp::Ordering;
+use std::mem;
 use toml::{Table, Value};
 
 // What a file says, of which each value must be one that its key may have; other keys are read
-// past. An `Err` names the first value, by the bytes of the keys, that is none.
+// past. The file is put over a tree, each profile as soon as it is read, while a cache still has it,
+// so all else is read before them. An `Err` names the first value, by the bytes of the keys, that is
+// none, and the tree is lost then.
 #[tactic(auto, unfolding(crate::specs::File::file_in))]
-pub(crate) fn read_file(alloc: Global, table: &Table) -> Result<FileConfig, ValueError>
-    ensures { Gives [] result (file_in (table_view table.now)) }
+pub(crate) fn read_file(
+    alloc: Global,
+    file: Table,
+    tree: &mut Table,
+) -> Result<FileConfig, ValueError>
+    ensures read { Gives [] result (file_in (table_view file)) }
+    ensures tree { OnOk result (table_view tree.new
+        ≡ merge (file_with_setup (table_view file)) (table_view tree.old)) }
 {
-    check_experimental(alloc, table)?;
-    check_nextest_version(alloc, table)?;
-    let profiles = read_profiles(alloc, table)?;
-    let old_scripts = read_old_scripts(alloc, table)?;
-    let scripts = read_scripts(alloc, table)?;
-    check_store(alloc, table)?;
-    let groups = read_groups(alloc, table)?;
+    check_experimental(alloc, &file)?;
+    check_nextest_version(alloc, &file)?;
+    let old_scripts = read_old_scripts(alloc, &file);
+    let scripts = read_scripts(alloc, &file);
+    let store = check_store(alloc, &file);
+    let groups = read_groups(alloc, &file);
+    let profiles = put_file(alloc, file, tree)?;
+    let old_scripts = old_scripts?;
+    let scripts = scripts?;
+    store?;
+    let groups = groups?;
     Ok(FileConfig {
         profiles,
         groups,
@@ -103,26 +122,76 @@ fn read_scripts(alloc: Global, table: &Table) -> Result<ScriptConfig, ValueError
     deserialize_scripts(alloc, member(table, "scripts"))
 }
 
-// What stands under `profile`.
-fn read_profiles(alloc: Global, table: &Table) -> Result<Listing<ProfileRules>, ValueError>
-    ensures { Gives [] result (profiles_at_file (table_view table.now)) }
+// What stands under `profile` of a file, which is put over a tree.
+fn put_file(
+    alloc: Global,
+    file: Table,
+    tree: &mut Table,
+) -> Result<Listing<ProfileRules>, ValueError>
+    ensures read { Gives [] result (profiles_at_file (table_view file)) }
+    ensures tree { OnOk result (table_view tree.new
+        ≡ merge (file_with_setup (table_view file)) (table_view tree.old)) }
 {
-    match member(table, "profile") {
+    let mut rest = file;
+    let given = take_out(&mut rest, "profile");
+    let profiles = put_profiles(alloc, given, tree)?;
+    let lower = mem::replace(tree, Table::new(alloc));
+    *tree = file_over(alloc, rest, lower)?;
+    Ok(profiles)
+}
+
+// What stands under `profile`, if something does, which is put over what a tree has there.
+fn put_profiles(
+    alloc: Global,
+    given: Option<Value>,
+    tree: &mut Table,
+) -> Result<Listing<ProfileRules>, ValueError>
+    ensures read { Gives [] result
+        (under (codes "profile") (profiles_of_file (option_map view given))) }
+    ensures tree { OnOk result (table_view tree.new
+        ≡ with_given (codes "profile") (option_map view given) (table_view tree.old)) }
+{
+    match given {
         None => Ok(Listing::new(alloc)),
-        Some(Value::Table(profiles)) => read_each(alloc, profiles),
-        Some(other) => Err(refused(alloc, &["profile"], Some(other), "a table")),
+        Some(Value::Table(profiles)) => put_table(alloc, profiles, tree),
+        Some(other) => Err(refused(alloc, &["profile"], Some(&other), "a table")),
     }
 }
 
-// Each profile of a table, the last one first: of a long text that was just read as TOML, the end is
-// what a cache still has.
-fn read_each(alloc: Global, profiles: &Table) -> Result<Listing<ProfileRules>, ValueError>
-    ensures { GivesAt (codes "profile" ∷ []) result (profiles_in_file (table_view profiles.now)) }
+// The profiles of a table, which is put over what a tree has under `profile`.
+fn put_table(
+    alloc: Global,
+    profiles: Table,
+    tree: &mut Table,
+) -> Result<Listing<ProfileRules>, ValueError>
+    ensures read { GivesAt (codes "profile" ∷ []) result (profiles_in_file (table_view profiles)) }
+    ensures tree { OnOk result (table_view tree.new ≡ with_given (codes "profile")
+        (Some (table (table_view profiles))) (table_view tree.old)) }
+{
+    let below = take_out(tree, "profile");
+    let mut merged = table_at(alloc, below);
+    let read = put_each(alloc, profiles, &mut merged)?;
+    let key = String::from_str(alloc, "profile")?;
+    put_over(alloc, tree, key, Value::Table(merged))?;
+    Ok(read)
+}
+
+// Each profile of a table, and it is put over lower ones, the last one first: of a long text that was
+// just read as TOML, the end is what a cache still has.
+fn put_each(
+    alloc: Global,
+    profiles: Table,
+    lower: &mut Table,
+) -> Result<Listing<ProfileRules>, ValueError>
+    ensures read { GivesAt (codes "profile" ∷ []) result (profiles_in_file (table_view profiles)) }
+    ensures merged { (below : Option Data) → members_at below ≡ table_view lower.old → OnOk result
+        (table (table_view lower.new) ≡ over (table (table_view profiles)) below) }
 {
     let mut read = Ok(Vec::new(alloc));
-    for (name, given) in profiles.iter().rev() {
-        let one = read_profile(alloc, name.as_str(), given);
+    for (name, given) in profiles.into_iter().rev() {
+        let one = read_profile(alloc, name.as_str(), &given);
         read = before(one, read);
+        put_over(alloc, lower, name, given)?;
     }
     let mut found = read?;
     found.reverse();

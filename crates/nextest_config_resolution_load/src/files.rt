@@ -1,10 +1,10 @@
 // The files of sources.
-ghost use Rattle.std.specs.Prelude.{◌≡◌, [], None, Some, Ok, map, option_map, option_to_list, IfOk, OnOk};
+ghost use Rattle.std.specs.Prelude.{◌≡◌, [], None, Ok, map, IfOk, OnOk};
 ghost use Rattle.std.specs.List.{flat_map};
-ghost use Rattle.toml.specs.Data.{table};
 ghost use Rattle.toml.specs.Parse.{parse_document};
 ghost use Rattle.toml.specs.View.{table_view};
-ghost use Rattle.nextest_config_resolution_load.specs.Checks.{document_checks, file_checks, file_of, file_with_setup, missing_checks, rules_in_file, source_checks, tree_of_files};
+ghost use Rattle.nextest_config_resolution_load.specs.Checks.{document_checks, file_checks, file_of, file_with_setup, missing_checks, rules_in_file, source_checks};
+ghost use Rattle.nextest_config_resolution_merge.specs.Tree.{merge};
 ghost use Rattle.nextest_config_resolution_load.specs.File.{file_in};
 ghost use Rattle.nextest_config_resolution_load.specs.Reading.{AreReadFiles, AreReadInFile, IsReadFile, ParsesText};
 ghost use Rattle.nextest_config_resolution_load.specs.Refusing.{Passes};
@@ -15,7 +15,6 @@ use crate::file_config::FileConfig;
 use crate::file_reading::read_file;
 use crate::languages::Languages;
 use crate::load_error::LoadError;
-use crate::merging::file_over;
 use crate::placed_file::{ReadFile, ReadFiles, SourceRules};
 use crate::profile_rules::load_profiles;
 use crate::refusing::{bad_value, no_toml, unread};
@@ -48,8 +47,8 @@ pub(crate) fn read_files<R: Languages>(
     let mut tree = copied(built_in)?;
     let mut rules = Vec::new(alloc);
     for source in sources {
-        let read = read_source::<R>(alloc, cx, features, source)?;
-        tree = with_file(alloc, tree, kept, source.path.as_str(), read.table)?;
+        let read = read_source::<R>(alloc, cx, features, source, tree, kept)?;
+        tree = read.tree;
         rules.push(read.rules)?;
     }
     Ok(ReadFiles { tree, rules })
@@ -62,46 +61,36 @@ fn copied(table: &Table) -> Result<Table, AllocError>
     table.clone()
 }
 
-// A file over a tree, if there is one, and what is told of it is kept, if anything is.
-fn with_file(
-    alloc: Global,
-    tree: Table,
-    kept: &mut Option<KeptWarnings>,
-    path: &str,
-    file: Option<Table>,
-) -> Result<Table, AllocError>
-    ensures tree { let files = option_to_list (option_map table_view file) in IfOk result (λ it.
-        table (table_view it) ≡ tree_of_files
-        (table (table_view tree)) (map file_with_setup files)) }
-    ensures kept { OnOk result
-        (AreKept kept.old kept.new (warnings_at path.now (option_map table_view file))) }
-{
-    match file {
-        None => Ok(tree),
-        Some(file) => {
-            keep_warnings(alloc, kept, path, &file)?;
-            file_over(alloc, file, tree)
-        }
-    }
-}
-
-// The file of a source, if there is one, and its rules.
+// What the file of a source, if there is one, comes to over a tree, and its rules. What is told of
+// the file is kept, if anything is.
 fn read_source<R: Languages>(
     alloc: Global,
     cx: &R::Cx,
     features: FeatureSet,
     source: &ConfigSource,
+    tree: Table,
+    kept: &mut Option<KeptWarnings>,
 ) -> Result<ReadFile<R::Filter, R::Spec>, LoadError>
-    ensures { Passes
+    ensures read { let given = file_of source.now in Passes
         (R.is_filter cx.now) R.is_spec R.is_too_deep (source_checks features source.now)
-        (IsReadFile (R.is_filter cx.now) R.is_spec source.now.path (file_of source.now)) result }
+        (IsReadFile (R.is_filter cx.now) R.is_spec source.now.path given (table_view tree)) result }
+    ensures kept { OnOk result (AreKept kept.old kept.new (warnings_for source.now)) }
 {
     let path = source.path.as_str();
     match &source.outcome {
         ConfigSourceOutcome::Text(text) => {
-            read_text::<R>(alloc, cx, features, path, &source.kind, text.as_str())
+            read_text::<R>(
+                alloc,
+                cx,
+                features,
+                path,
+                &source.kind,
+                text.as_str(),
+                tree,
+                kept,
+            )
         }
-        ConfigSourceOutcome::NotFound => read_missing::<R>(alloc, cx, path, &source.kind),
+        ConfigSourceOutcome::NotFound => read_missing::<R>(alloc, cx, path, &source.kind, tree),
         ConfigSourceOutcome::Failed(cause) => Err(unread(alloc, path, cause.as_str())),
     }
 }
@@ -112,13 +101,14 @@ fn read_missing<R: Languages>(
     cx: &R::Cx,
     path: &str,
     kind: &ConfigSourceKind,
+    tree: Table,
 ) -> Result<ReadFile<R::Filter, R::Spec>, LoadError>
     ensures { Passes (R.is_filter cx.now) R.is_spec R.is_too_deep (missing_checks path.now kind.now)
-        (IsReadFile (R.is_filter cx.now) R.is_spec path.now None) result }
+        (IsReadFile (R.is_filter cx.now) R.is_spec path.now None (table_view tree)) result }
 {
     match kind {
         ConfigSourceKind::DiscoveredRepository => Ok(ReadFile {
-            table: None,
+            tree,
             rules: no_rules(alloc),
         }),
         ConfigSourceKind::Tool(_) | ConfigSourceKind::ExplicitRepository => {
@@ -138,7 +128,7 @@ fn no_rules<F: Drop, S: Drop>(alloc: Global) -> SourceRules<F, S>
     }
 }
 
-// The file of a text, and its rules.
+// What the file of a text comes to over a tree, and its rules.
 fn read_text<R: Languages>(
     alloc: Global,
     cx: &R::Cx,
@@ -146,17 +136,20 @@ fn read_text<R: Languages>(
     path: &str,
     kind: &ConfigSourceKind,
     text: &str,
+    tree: Table,
+    kept: &mut Option<KeptWarnings>,
 ) -> Result<ReadFile<R::Filter, R::Spec>, LoadError>
-    ensures { let given = parse_document text.now in Passes (R.is_filter cx.now)
+    ensures read { let given = parse_document text.now in Passes (R.is_filter cx.now)
         R.is_spec R.is_too_deep (document_checks features path.now kind.now given)
-        (IsReadFile (R.is_filter cx.now) R.is_spec path.now given) result }
+        (IsReadFile (R.is_filter cx.now) R.is_spec path.now given (table_view tree)) result }
+    ensures kept { OnOk result
+        (AreKept kept.old kept.new (warnings_at path.now (parse_document text.now))) }
 {
-    let table = parse_text(alloc, path, text)?;
-    let rules = read_rules::<R>(alloc, cx, features, path, kind, &table)?;
-    Ok(ReadFile {
-        table: Some(table),
-        rules,
-    })
+    let file = parse_text(alloc, path, text)?;
+    keep_warnings(alloc, kept, path, &file)?;
+    let mut tree = tree;
+    let rules = read_rules::<R>(alloc, cx, features, path, kind, file, &mut tree)?;
+    Ok(ReadFile { tree, rules })
 }
 
 // The file of a text.
@@ -173,20 +166,23 @@ fn parse_text(alloc: Global, path: &str, text: &str) -> Result<Table, LoadError>
     }
 }
 
-// The rules of a file, whose values are all such as their keys can have.
+// The rules of a file, whose values are all such as their keys can have. It is put over a tree.
 fn read_rules<R: Languages>(
     alloc: Global,
     cx: &R::Cx,
     features: FeatureSet,
     path: &str,
     kind: &ConfigSourceKind,
-    table: &Table,
+    file: Table,
+    tree: &mut Table,
 ) -> Result<SourceRules<R::Filter, R::Spec>, LoadError>
-    ensures { let given = file_in (table_view table.now) in Passes (R.is_filter cx.now)
+    ensures rules { let given = file_in (table_view file) in Passes (R.is_filter cx.now)
         R.is_spec R.is_too_deep (file_checks features path.now kind.now given) (λ it.
         AreReadInFile (R.is_filter cx.now) R.is_spec (rules_in_file path.now given) it) result }
+    ensures tree { OnOk result (table_view tree.new
+        ≡ merge (file_with_setup (table_view file)) (table_view tree.old)) }
 {
-    match read_file(alloc, table) {
+    match read_file(alloc, file, tree) {
         Ok(config) => rules_of::<R>(alloc, cx, features, path, kind, config),
         Err(ValueError::Refused(bad)) => Err(bad_value(alloc, path, bad)),
         Err(ValueError::OutOfMemory) => Err(LoadError::OutOfMemory),

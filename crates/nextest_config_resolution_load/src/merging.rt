@@ -4,6 +4,7 @@ ghost use Rattle.toml.specs.Data.{get_member, member, no_members};
 ghost use Rattle.toml.specs.View.{table_view, view};
 ghost use Rattle.nextest_config_resolution_merge.specs.Tree.{merge};
 ghost use Rattle.nextest_config_resolution_load.specs.Checks.{as_setup, file_with_setup};
+ghost use Rattle.nextest_config_resolution_load.specs.Merging.{IsTakenOut, members_at};
 
 use nextest_config_elements_toml::member;
 use nextest_config_resolution_merge::merge;
@@ -48,4 +49,24 @@ fn only(alloc: Global, key: &str, value: Value) -> Result<Table, AllocError>
     let key = String::from_str(alloc, key)?;
     table.insert(key, value)?;
     Ok(table)
+}
+
+// Takes out what stands at a key of a table.
+pub(crate) fn take_out(table: &mut Table, key: &str) -> Option<Value>
+    ensures value { option_map view result ≡ get_member key.now (table_view table.old) }
+    ensures left { IsTakenOut
+        key.now (option_map view result) (table_view table.old) (table_view table.new) }
+{
+    let _keys = table.len();
+    table.remove(key)
+}
+
+// The table that stands somewhere, or an empty one.
+pub(crate) fn table_at(alloc: Global, value: Option<Value>) -> Table
+    ensures { table_view result ≡ members_at (option_map view value) }
+{
+    match value {
+        Some(Value::Table(table)) => table,
+        _ => Table::new(alloc),
+    }
 }

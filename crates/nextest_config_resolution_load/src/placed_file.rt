@@ -11,10 +11,11 @@ pub(crate) struct SourceRules<Filter, Spec> {
     pub(crate) scripts: Listing<LoadedScriptRule<Filter, Spec>>,
 }
 
-// What was read of a source: its file, if there is one, and the rules in it.
+// What was read of a source: what its file, if there is one, comes to over lower ones, and the rules
+// in it.
 #[derive(Drop)]
 pub(crate) struct ReadFile<Filter, Spec> {
-    pub(crate) table: Option<Table>,
+    pub(crate) tree: Table,
     pub(crate) rules: SourceRules<Filter, Spec>,
 }
 

@@ -1,6 +1,5 @@
 // What a merged tree says.
-ghost use Rattle.std.specs.Prelude.{◌≡◌, codes, map, option_map, IfOk};
-ghost use Rattle.toml.specs.Data.{get_member};
+ghost use Rattle.std.specs.Prelude.{codes, map, IfOk};
 ghost use Rattle.toml.specs.View.{table_view, view};
 ghost use Rattle.nextest_config_elements_toml.specs.Reading.{under};
 ghost use Rattle.nextest_config_resolution_inheritance.specs.Inheritance.{Rise};
@@ -12,6 +11,7 @@ ghost use Rattle.nextest_config_resolution_load.specs.Load.{named_of};
 ghost use Rattle.nextest_config_resolution_load.specs.Reading.{GivesSeen, profile_at, values_of};
 
 use crate::loaded_config::{NamedProfile, ReadConfig};
+use crate::merging::take_out;
 use nextest_config_elements_toml::{ValueError, member, refused};
 use nextest_config_resolution_overrides::{NamedGroup, deserialize_test_groups};
 use nextest_config_resolution_scripts::{ScriptConfig, deserialize_scripts};
@@ -67,19 +67,12 @@ fn read_profiles(alloc: Global, tree: Table) -> Result<Listing<NamedProfile>, Va
     ensures read { GivesSeen (map named_of) result (profiles_at (table_view tree)) }
     ensures rises { IfOk result (λ it. Rise (parents_of (map named_of it))) }
 {
-    match taken(tree, "profile") {
+    let mut left = tree;
+    match take_out(&mut left, "profile") {
         None => Ok(Listing::new(alloc)),
         Some(Value::Table(profiles)) => read_each(alloc, profiles),
         Some(other) => Err(refused(alloc, &["profile"], Some(&other), "a table")),
     }
-}
-
-// What stands under a key of a table.
-fn taken(table: Table, key: &str) -> Option<Value>
-    ensures { option_map view result ≡ get_member key.now (table_view table) }
-{
-    let mut left = table;
-    left.remove(key)
 }
 
 // The profiles of a table.

@@ -8,4 +8,4 @@
 pub mod laws;
 mod merging;
 
-pub use merging::merge;
+pub use merging::{merge, put_over};

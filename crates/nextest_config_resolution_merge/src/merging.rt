@@ -95,3 +95,38 @@ fn table_under(alloc: Global, higher: Value, lower: Table) -> Result<Value, Allo
         leaf => Ok(leaf),
     }
 }
+
+/// Puts a value at a key of a table, over what stands there: tables are joined as `merge` joins
+/// them, and else the value hides what stood there. It moves, and no text is copied.
+///
+/// # Errors
+///
+/// It fails only on allocation. What the table has at the key may be lost then.
+pub fn put_over(
+    alloc: Global,
+    table: &mut Table,
+    key: String,
+    value: Value,
+) -> Result<(), AllocError>
+    ensures { OnOk result (table_view table.new ≡ with_member (string_bytes key)
+        (over (view value) (get_member (string_bytes key) (table_view table.old)))
+        (table_view table.old)) }
+{
+    let Some(below) = table.get_mut(&key) else {
+        table.insert(key, value)?;
+        return Ok(());
+    };
+    let lower = mem::replace(below, Value::Boolean(false));
+    *below = value_over(alloc, value, lower)?;
+    Ok(())
+}
+
+// A value over another: under a table only a table shows.
+fn value_over(alloc: Global, higher: Value, lower: Value) -> Result<Value, AllocError>
+    ensures { IfOk result (λ it. view it ≡ over (view higher) (Some (view lower))) }
+{
+    match lower {
+        Value::Table(lower) => table_under(alloc, higher, lower),
+        _ => Ok(higher),
+    }
+}

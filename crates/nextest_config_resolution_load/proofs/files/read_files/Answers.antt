@@ -1,7 +1,7 @@
-use Rattle.std.proofs.Common.{option_map}
+use Rattle.std.proofs.Common.{refl}
 use Rattle.std.specs.List.{flat_map}
 use Rattle.toml.specs.View.{table_view}
-use Rattle.nextest_config_resolution_load.specs.Checks.{rules_of_source, source_checks}
+use Rattle.nextest_config_resolution_load.specs.Checks.{file_of, rules_of_source, source_checks}
 use Rattle.nextest_config_resolution_load.specs.Reading.{AreReadFiles, AreReadInFile}
 use Rattle.nextest_config_resolution_load.proofs.Passing.{kept_all, kept_at, passes_on, refuses_at, seen_at, seen_over, seen_within, zip_at}
 use Rattle.nextest_config_resolution_load.proofs.Sources.{files_read, kept_more, kept_whole, now_of, tree_more}
@@ -18,7 +18,7 @@ returns-in_err-read-clause-read g c =
     let source = c.source-item.result in
     passes_on Is IsSpec IsTooDeep (AreReadFiles Is IsSpec (table_view c.args.built_in.now) all) (flat_map (source_checks features) all) c.in_err-read.field-0.0 c.from_residual-in_err-read.result
     (refuses_at Is IsSpec IsTooDeep (source_checks features) all place source.now c.in_err-read.field-0.0 (seen_within (λ it. it.now) c.args.sources.now place c.loop-source-test.true)
-    (seen_at (λ it. it.now) c.args.sources.now place source c.loop-source-test.true c.source-item.is) c.loop-source.invariant.kept c.in_err-read.ensures)
+    (seen_at (λ it. it.now) c.args.sources.now place source c.loop-source-test.true c.source-item.is) c.loop-source.invariant.kept c.in_err-read.ensures.read)
     c.from_residual-in_err-read.ensures.1
 
 pub loop-source-preserved : goal.loop-source-preserved
@@ -31,14 +31,14 @@ loop-source-preserved g c =
     let source = c.source-item.result in
     let within = seen_within (λ it. it.now) c.args.sources.now place c.loop-source-test.true in
     let at = seen_at (λ it. it.now) c.args.sources.now place source c.loop-source-test.true c.source-item.is in
-    let read = c.in_ok-read.ensures in
-    let file = option_map table_view c.in_ok-read.read.table in
+    let read = c.in_ok-read.ensures.read in
+    let file = file_of source.now in
     record {
       kept = kept_at Is IsSpec g.R.Languages.is_too_deep (source_checks features) all place source.now within at c.loop-source.invariant.kept read.0;
-      tree = tree_more (table_view c.args.built_in.now) (table_view c.loop-source.tree) (table_view c.in_ok-tree-2.tree) all place source.now file within at read.1.table
-          c.loop-source.invariant.tree c.in_ok-tree-2.ensures.tree;
-      told = kept_more c.args.kept.now c.loop-source.kept c.with_file.new.kept all place c.as_str.result.now source.now file within at read.1.table
-          c.as_str.ensures c.loop-source.invariant.told c.in_ok-tree-2.ensures.kept;
+      tree = tree_more (table_view c.args.built_in.now) (table_view c.loop-source.tree) (table_view c.in_ok-read.read.tree) all place source.now file within at refl
+          c.loop-source.invariant.tree read.1.tree;
+      told = kept_more c.args.kept.now c.loop-source.kept c.read_source.new.kept all place source.now.path source.now file within at refl
+          refl c.loop-source.invariant.told c.in_ok-read.ensures.kept;
       rules = zip_at (λ source own. AreReadInFile Is IsSpec (rules_of_source source) own) all c.loop-source.rules.items c.push.new.self.items place source.now c.in_ok-read.read.rules within at
           c.loop-source.invariant.rules read.1.rules c.in_ok-push.ensures.items;
     }

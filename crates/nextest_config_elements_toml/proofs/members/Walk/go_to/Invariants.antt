@@ -1,12 +1,10 @@
-use Rattle.std.proofs.Common.{◌≡◌, false, List, length}
-use Rattle.nextest_config_elements_toml.specs.Walks.{Entry, IsWalk, ahead, is_passed}
+use Rattle.std.proofs.Common.{List, length}
+use Rattle.nextest_config_elements_toml.specs.Walks.{Entry, IsWalk, ahead}
 use Rattle.nextest_config_elements_toml.proofs.members.Walk.go_to.Given as goal
 
--- it is a walk over what it was one over, and not past the key
+-- it is a walk over what it was one over
 abbrev pub invariant-loop-self : goal.invariant-loop-self
-invariant-loop-self l =
-    ((all : List Entry) → IsWalk all l.initial.self → IsWalk all l.self)
-    × (is_passed l.initial.self.passed l.key ≡ false → is_passed l.self.passed l.key ≡ false)
+invariant-loop-self l = (all : List Entry) → IsWalk all l.initial.self → IsWalk all l.self
 
 -- how many members are ahead
 abbrev pub decreases-loop-self : goal.decreases-loop-self
