@@ -176,8 +176,8 @@ fn put_table(
     Ok(read)
 }
 
-// Each profile of a table, and it is put over lower ones, the last one first: of a long text that was
-// just read as TOML, the end is what a cache still has.
+// Each profile of a table, which is put over lower ones, the last one first: of a long text that
+// was just read as TOML, the end is what a cache still has.
 fn put_each(
     alloc: Global,
     profiles: Table,

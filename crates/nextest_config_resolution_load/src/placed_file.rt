@@ -11,8 +11,8 @@ pub(crate) struct SourceRules<Filter, Spec> {
     pub(crate) scripts: Listing<LoadedScriptRule<Filter, Spec>>,
 }
 
-// What was read of a source: what its file, if there is one, comes to over lower ones, and the rules
-// in it.
+// What was read of a source: what its file, if there is one, comes to over lower ones, and the
+// rules in it.
 #[derive(Drop)]
 pub(crate) struct ReadFile<Filter, Spec> {
     pub(crate) tree: Table,
