@@ -38,9 +38,9 @@ use std::mem;
 use toml::{Table, Value};
 
 // What a file says, of which each value must be one that its key may have; other keys are read
-// past. The file is put over a tree, each profile as soon as it is read, while a cache still has it,
-// so all else is read before them. An `Err` names the first value, by the bytes of the keys, that is
-// none, and the tree is lost then.
+// past. The file is put over a tree, each profile as soon as it is read, while a cache still has
+// it: so all else is read before them. An `Err` names the first value, by the bytes of the keys,
+// that is none, and the tree is lost then.
 #[tactic(auto, unfolding(crate::specs::File::file_in))]
 pub(crate) fn read_file(
     alloc: Global,
