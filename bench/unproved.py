@@ -3,11 +3,12 @@
 
     python3 bench/unproved.py CRATE TO
 
-`rt try` compiles a crate with all libraries below it from their sources, with a check wherever a proof would be owed, and with nothing
-optimized. This takes the module that it hands to clang, and compiles it with `-O3` and without the checks of addresses. The checks of
-indexes, sums and `prove!` stay, so it takes three to four times the instructions of the proved program, and of them no ratio can be read;
-but it asks for the same memory in the same order, so its page faults and cache misses are those of the proved one, and two such programs
-can be compared. The files of the crate's `data/` are not copied: run the program where they lie.
+`rt try` compiles a crate with all libraries below it from their sources, with checks wherever a proof would be owed, and with nothing
+optimized. This takes the module that it hands to clang, leaves out the checks of addresses and all that are calls (of casts, sums,
+divisors, alignment), and compiles it with `-O3`. Checks that are branches stay, those of indexes and `prove!` among them, so it takes some
+1.4 times the instructions of the proved program, and no ratio to another program can be read off it. But it asks for the same memory in
+the same order, so its page faults and cache misses are those of the proved one, and two such programs can be compared, by time too. A
+wrong step that a check would have stopped goes on in it. The files of the crate's `data/` are not copied: run the program where they lie.
 """
 import os
 import pathlib
@@ -47,8 +48,13 @@ def copy_of_kit(room, kept):
     clang.chmod(0o755)
 
 
-def without_asan(text):
-    """The module's text for a common processor, with no function watched for its addresses."""
+# Calls that check something, and those that fill what isn't set yet.
+CHECKS = ('call void @"rattle-llvm-checks::', ", i8 -86, i64 ")
+
+
+def without_checks(text):
+    """The module's text for a common processor, with no function watched for its addresses, and no call that only checks."""
+    text = "".join(line for line in text.splitlines(keepends=True) if not any(check in line for check in CHECKS))
     text = text.replace('"target-cpu"="x86-64"', '"target-cpu"="x86-64-v2"').replace(" sanitize_address", "")
     return text.replace(' "probe-stack"="inline-asm" "stack-probe-size"="3072"', "")
 
@@ -64,7 +70,7 @@ def build(folder, to):
             sys.exit(tried.stdout + tried.stderr + "no module was compiled")
         clang, plain, code = KIT / "toolchain/bin/clang", kept.with_suffix(".ll"), kept.with_suffix(".o")
         subprocess.run([clang, *FLAGS, "-S", "-emit-llvm", "-O0", "-x", "ir", kept, "-o", plain], check=True)
-        plain.write_text(without_asan(plain.read_text()))
+        plain.write_text(without_checks(plain.read_text()))
         subprocess.run([clang, *FLAGS, "-march=x86-64-v2", "-O3", "-c", "-x", "ir", plain, "-o", code], check=True)
         words = ["--target", TARGET, "--toolchain", KIT / "toolchain", "-o", to, code, KIT / "c/libos_c.a", KIT / "c/liblibc_c.a"]
         subprocess.run([KIT / "bin/rattle-link", *words], check=True)
