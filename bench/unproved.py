@@ -4,11 +4,11 @@
     python3 bench/unproved.py CRATE TO
 
 `rt try` compiles a crate with all libraries below it from their sources, with checks wherever a proof would be owed, and with nothing
-optimized. This takes the module that it hands to clang, leaves out the checks of addresses and all that are calls (of casts, sums,
-divisors, alignment), and compiles it with `-O3`. Checks that are branches stay, those of indexes and `prove!` among them, so it takes some
-1.4 times the instructions of the proved program, and no ratio to another program can be read off it. But it asks for the same memory in
-the same order, so its page faults and cache misses are those of the proved one, and two such programs can be compared, by time too. A
-wrong step that a check would have stopped goes on in it. The files of the crate's `data/` are not copied: run the program where they lie.
+optimized. This takes the module that it hands to clang, leaves out the checks of addresses and all calls that only check something, and
+compiles it with `-O3`. A branch that such a call guarded is then one that clang takes to be impossible, so a step that a check would have
+stopped may do anything: it is no test of the code. It takes some 1.4 times the instructions of the proved program (seen of one program; why
+it isn't fewer wasn't looked into), so no ratio to another program can be read off it. But its page faults and cache misses were those of
+the proved one, and two such programs can be compared. The files of the crate's `data/` are not copied: run the program where they lie.
 """
 import os
 import pathlib
