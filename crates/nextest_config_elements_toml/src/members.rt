@@ -1,5 +1,7 @@
 // Members of a table that are asked for in the order of their keys.
 ghost use Rattle.std.specs.Prelude.{◌≡◌, List, option_map};
+ghost use Rattle.std.specs.Cmp.Lexicographic.{slice_cmp};
+ghost use Rattle.std.specs.Ordering.{nat_cmp};
 ghost use Rattle.toml.specs.Data.{get_member};
 ghost use Rattle.toml.specs.View.{members_view, table_view, view};
 ghost use Rattle.nextest_config_elements_toml.specs.Walks.{Entry, IsAhead, IsWalk, is_passed};
@@ -81,7 +83,7 @@ impl<'a> Walk<'a> {
         ensures { result ≡ is_passed self.now.passed key.now }
     {
         match self.passed {
-            Some(passed) => match key.cmp(passed.as_str()) {
+            Some(passed) => match compare(key, passed.as_str()) {
                 Ordering::Less | Ordering::Equal => true,
                 Ordering::Greater => false,
             },
@@ -96,7 +98,7 @@ impl<'a> Walk<'a> {
             → IsAhead all self.new.passed key.now (option_map (λ it. view it.now) result) }
     {
         while let Some((name, value)) = self.next {
-            match key.cmp(name.as_str()) {
+            match compare(key, name.as_str()) {
                 Ordering::Less => return None,
                 Ordering::Equal => {
                     self.passed = Some(name);
@@ -110,5 +112,15 @@ impl<'a> Walk<'a> {
             }
         }
         None
+    }
+}
+
+// How two keys compare: mostly their first bytes tell.
+fn compare(one: &str, other: &str) -> Ordering
+    ensures { result ≡ slice_cmp nat_cmp one.now other.now }
+{
+    match (one.as_bytes().first(), other.as_bytes().first()) {
+        (Some(first), Some(beside)) if first != beside => first.cmp(beside),
+        _ => one.cmp(other),
     }
 }

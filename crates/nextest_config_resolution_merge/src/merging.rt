@@ -1,5 +1,5 @@
 // A table over another.
-ghost use Rattle.std.specs.Prelude.{◌≡◌, Some, true, option_map, IfOk, OnOk, string_bytes};
+ghost use Rattle.std.specs.Prelude.{◌≡◌, Some, true, option_map, IfOk, IsTrue, OnOk, string_bytes};
 ghost use Rattle.toml.specs.Data.{get_member, table};
 ghost use Rattle.toml.specs.View.{table_view, view};
 ghost use Rattle.nextest_config_resolution_merge.specs.Showing.{IsHidden, Shows};
@@ -10,9 +10,14 @@ use std::alloc::{AllocError, Global};
 use std::mem;
 use toml::{Table, Value};
 
+// How many levels below two tables are looked into before they are merged: so no table is walked
+// over more than three times, however deep it stands.
+const LEVELS: usize = 1;
+
 /// The table of `higher` over `lower`: tables that both have at a key are joined likewise, and
 /// else what `higher` has there hides what `lower` has. Values move, and no text is copied. Both
-/// tables are walked over together, and of what `lower` has only what shows is looked up and kept.
+/// tables are walked over together: where `lower` is seen to be hidden, it is dropped whole, and
+/// else what shows of it is looked up and kept.
 ///
 /// # Errors
 ///
@@ -21,6 +26,9 @@ use toml::{Table, Value};
 pub fn merge(alloc: Global, higher: Table, lower: Table) -> Result<Table, AllocError>
     ensures { IfOk result (λ it. table_view it ≡ merge (table_view higher) (table_view lower)) }
 {
+    if hides(&higher, &lower, LEVELS) {
+        return Ok(higher);
+    }
     let shown = showing(alloc, &higher, lower)?;
     let mut merged = higher;
     for (key, value) in shown {
@@ -30,6 +38,22 @@ pub fn merge(alloc: Global, higher: Table, lower: Table) -> Result<Table, AllocE
     Ok(merged)
 }
 
+// Whether a table hides all that another has, as far as is seen so many levels below them.
+#[cycle(hides)]
+fn hides(higher: &Table, lower: &Table, levels: usize) -> bool
+    ensures { IsTrue result
+        → merge (table_view higher.now) (table_view lower.now) ≡ table_view higher.now }
+{
+    let mut members = TableMembers::new(higher);
+    for (key, value) in lower {
+        if !is_hidden(members.get(key), value, levels) {
+            return false;
+        }
+    }
+    let _keys = higher.len();
+    true
+}
+
 // What a table has that another doesn't hide, in the order of the keys.
 fn showing(alloc: Global, higher: &Table, lower: Table) -> Result<Vec<(String, Value)>, AllocError>
     ensures { IfOk result (λ it. Shows (table_view higher.now) lower.entries it.items) }
@@ -37,7 +61,7 @@ fn showing(alloc: Global, higher: &Table, lower: Table) -> Result<Vec<(String, V
     let mut members = TableMembers::new(higher);
     let mut shown = Vec::new(alloc);
     for (key, value) in lower {
-        if !is_hidden(members.get(&key), &value) {
+        if !is_hidden(members.get(&key), &value, 0) {
             shown.push((key, value))?;
         }
     }
@@ -45,14 +69,18 @@ fn showing(alloc: Global, higher: &Table, lower: Table) -> Result<Vec<(String, V
 }
 
 // Whether a value is hidden by what stands above it, if something does: only a table under a table
-// shows.
-fn is_hidden(above: Option<&Value>, value: &Value) -> bool
+// shows, unless it is seen to be hidden so many levels below.
+#[cycle(hides)]
+fn is_hidden(above: Option<&Value>, value: &Value, levels: usize) -> bool
     ensures { result ≡ true
         → IsHidden (option_map (λ it. view it.now) above.entry) (view value.now) }
 {
     match above {
         None => false,
-        Some(Value::Table(_)) => !matches!(value, Value::Table(_)),
+        Some(Value::Table(higher)) => match value {
+            Value::Table(lower) => levels > 0 && hides(higher, lower, levels - 1),
+            _ => true,
+        },
         Some(_) => true,
     }
 }

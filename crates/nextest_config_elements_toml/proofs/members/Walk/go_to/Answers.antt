@@ -12,7 +12,7 @@ returns-in-Less-clause-walk c all is = c.loop-self.invariant all is
 pub returns-in-Less-clause-found : goal.returns-in-Less-clause-found
 returns-in-Less-clause-found c all is before =
     missing all c.loop-self.self (c.in-Some.name, c.in-Some.value) c.args.key.now c.in-Some.is before
-    (ap (slice_cmp nat_cmp c.args.key.now) (sym c.as_str.ensures.value) ∙ sym c.cmp.ensures ∙ c.in-Less.is) (c.loop-self.invariant all is)
+    (ap (slice_cmp nat_cmp c.args.key.now) (sym c.as_str.ensures.value) ∙ sym c.compare.ensures ∙ c.in-Less.is) (c.loop-self.invariant all is)
 
 pub returns-in-Equal-clause-walk : goal.returns-in-Equal-clause-walk
 returns-in-Equal-clause-walk c all is =
@@ -22,7 +22,7 @@ returns-in-Equal-clause-walk c all is =
 pub returns-in-Equal-clause-found : goal.returns-in-Equal-clause-found
 returns-in-Equal-clause-found c all is =
     found all c.loop-self.self (c.in-Some.name, c.in-Some.value) c.args.key.now c.in-Some.is
-    (ap (slice_cmp nat_cmp c.args.key.now) (sym c.as_str.ensures.value) ∙ sym c.cmp.ensures ∙ c.in-Equal.is) (c.loop-self.invariant all is)
+    (ap (slice_cmp nat_cmp c.args.key.now) (sym c.as_str.ensures.value) ∙ sym c.compare.ensures ∙ c.in-Equal.is) (c.loop-self.invariant all is)
 
 pub loop-self-smaller : goal.loop-self-smaller
 loop-self-smaller c = fewer c.loop-self.self (c.in-Some.name, c.in-Some.value) c.next-self-in-Greater.result c.next-self-in-Greater.new.self c.in-Some.is c.next-self-in-Greater.ensures.steps
