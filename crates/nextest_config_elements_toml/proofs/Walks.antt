@@ -10,7 +10,7 @@ use Rattle.std.specs.List.Sorted.{IsStrictlySortedBy}
 use Rattle.std.specs.Map.{keys_of}
 use Rattle.std.specs.Map.Iter.{TakesFirst, deref_pair}
 use Rattle.std.specs.Option.{option_to_list}
-use Rattle.std.specs.Ordering.{match_ordering, ordering_reverse}
+use Rattle.std.specs.Ordering.{is_lt, match_ordering}
 use Rattle.std.specs.String.{string_cmp}
 use Rattle.toml.specs.Data.{get_member}
 use Rattle.toml.specs.View.{members_view, view}
@@ -49,31 +49,21 @@ begun all next rest rises took = record {
   ascends = subst (λ (it : List Entry). IsStrictlySortedBy string_cmp (keys_of it)) (sym (taken all next rest took)) rises;
 }
 
--- the key that is passed is below the one where the walk stands
-ordered : (passed : Option (Bor (String Global))) (first : String Global) (more : List (String Global)) (key : List ℕ)
-    → IsStrictlySortedBy string_cmp (option_to_list (option_copied passed) ++ first ∷ more) → slice_cmp nat_cmp key (string_bytes first) ≡ Greater
+-- a key isn't passed that isn't below the one where the walk stands
+unpassed : (passed : Option (Bor (String Global))) (first : String Global) (more : List (String Global)) (key : List ℕ)
+    → IsStrictlySortedBy string_cmp (option_to_list (option_copied passed) ++ first ∷ more) → is_lt (slice_cmp nat_cmp key (string_bytes first)) ≡ false
     → is_passed passed key ≡ false
 unfolding IsStrictlySortedBy
-ordered None first more key rises greater = refl
-ordered (Some passed) first more key rises greater = rw (above key (string_bytes passed.now) (string_bytes first) rises.0.0 greater)
+unpassed None first more key rises behind = refl
+unpassed (Some passed) first more key rises behind = rw (above key (string_bytes passed.now) (string_bytes first) rises.0.0 behind)
   where
-    above : (key low high : List ℕ) → slice_cmp nat_cmp low high ≡ Less → slice_cmp nat_cmp key high ≡ Greater → slice_cmp nat_cmp key low ≡ Greater
-    above key low high less greater =
-        let back : slice_cmp nat_cmp high key ≡ Less = nat_list_cmp_total.antisymm high key ∙ ap ordering_reverse greater in
-        nat_list_cmp_total.antisymm key low ∙ ap ordering_reverse (nat_list_cmp_total.trans low high key less back)
-
--- the key where it stands isn't passed
-unpassed_at : (passed : Option (Bor (String Global))) (first : String Global) (more : List (String Global)) (key : List ℕ)
-    → IsStrictlySortedBy string_cmp (option_to_list (option_copied passed) ++ first ∷ more) → slice_cmp nat_cmp key (string_bytes first) ≡ Equal
-    → is_passed passed key ≡ false
-unfolding IsStrictlySortedBy
-unpassed_at None first more key rises equal = refl
-unpassed_at (Some passed) first more key rises equal = rw (above key (string_bytes passed.now) (string_bytes first) rises.0.0 equal)
-  where
-    above : (key low high : List ℕ) → slice_cmp nat_cmp low high ≡ Less → slice_cmp nat_cmp key high ≡ Equal → slice_cmp nat_cmp key low ≡ Greater
-    above key low high less equal =
-        let same : key ≡ high = exact_bytes key high equal in
-        nat_list_cmp_total.antisymm key low ∙ ap ordering_reverse (ap (slice_cmp nat_cmp low) same ∙ less)
+    above : (key low high : List ℕ) → slice_cmp nat_cmp low high ≡ Less → is_lt (slice_cmp nat_cmp key high) ≡ false → slice_cmp nat_cmp key low ≡ Greater
+    above key low high less behind = by_order (slice_cmp nat_cmp key low) refl
+      where
+        by_order : (o : Ordering) → slice_cmp nat_cmp key low ≡ o → o ≡ Greater
+        by_order Less e = absurd (true≢false (sym (ap is_lt (nat_list_cmp_total.trans key low high e less)) ∙ behind))
+        by_order Equal e = absurd (true≢false (sym (ap is_lt (ap (λ (it : List ℕ). slice_cmp nat_cmp it high) (exact_bytes key low e) ∙ less)) ∙ behind))
+        by_order Greater e = refl
 
 tail_rises : (passed : Option (Bor (String Global))) (left : List (String Global)) → IsStrictlySortedBy string_cmp (option_to_list (option_copied passed) ++ left)
     → IsStrictlySortedBy string_cmp left
@@ -100,10 +90,10 @@ moved all walk first next rest stands took is =
     record {
       tells = λ key before.
           let greater = greater_than first.0 key before in
-          let unpassed = ordered walk.passed first.0.now (keys_of walk.rest) key rises greater in
+          let it = unpassed walk.passed first.0.now (keys_of walk.rest) key rises (ap is_lt greater) in
           ap (λ (it : List Entry). get_member key (members_view it)) (taken walk.rest next rest took)
           ∙ skipped key first.0.now first.1.now walk.rest greater
-          ∙ told all walk left is same key unpassed;
+          ∙ told all walk left is same key it;
       ascends = subst (λ (it : List Entry). IsStrictlySortedBy string_cmp (first.0.now ∷ keys_of it)) (sym (taken walk.rest next rest took))
           (tail_rises walk.passed (first.0.now ∷ keys_of walk.rest) rises);
     }
@@ -119,7 +109,7 @@ found all walk first key stands equal is =
     let left : List Entry = (first.0.now, first.1.now) ∷ walk.rest in
     let same : ahead walk.next walk.rest ≡ left = standing walk first stands in
     at_head key first.0.now first.1.now walk.rest equal
-    ∙ told all walk left is same key (unpassed_at walk.passed first.0.now (keys_of walk.rest) key (rising all walk left is same) equal)
+    ∙ told all walk left is same key (unpassed walk.passed first.0.now (keys_of walk.rest) key (rising all walk left is same) (ap is_lt equal))
   where
     at_head : (key : List ℕ) (name : String Global) (value : Value) (more : List Entry) → slice_cmp nat_cmp key (string_bytes name) ≡ Equal
         → Some (view value) ≡ get_member key (members_view ((name, value) ∷ more))
