@@ -38,7 +38,7 @@ pub fn merge(alloc: Global, higher: Table, lower: Table) -> Result<Table, AllocE
     Ok(merged)
 }
 
-// Whether a table hides all that another has, as far as is seen so many levels below them.
+// Whether a table is seen to hide all that another has, looking so many levels below them.
 #[cycle(hides)]
 fn hides(higher: &Table, lower: &Table, levels: usize) -> bool
     ensures { IsTrue result
