@@ -7,6 +7,7 @@
 //! log without a plan.
 #![tactic(auto)]
 
+mod ahead;
 mod check;
 mod entry;
 mod judge_fault;

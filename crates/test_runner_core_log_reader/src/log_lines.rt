@@ -100,6 +100,13 @@ impl LogLines {
         &self.buffer[self.line_start..self.line_end]
     }
 
+    /// The bytes that were read and not handed out yet.
+    pub fn waiting(&self) -> &[u8]
+        ensures { result.now ≡ self.now.waiting }
+    {
+        &self.buffer[self.start..self.end]
+    }
+
     /// Whether the next call of `next` needs no read: the bytes that were read tell a line, or that
     /// one or the log is too long. It forgets the line before.
     pub fn is_waiting(&mut self) -> bool

@@ -13,6 +13,9 @@ use test_runner_core_plan::PlanTest;
 // How many slots a test may have, from that of its hash on.
 const NEAR: usize = 8;
 
+// In how many of them it is looked for where it is only likely to start.
+const LIKELY: usize = 4;
+
 // The place of no test.
 const FREE: u32 = u32::MAX;
 
@@ -44,7 +47,7 @@ impl Guesses {
             width,
         };
         for (place, test) in tests.iter().enumerate() {
-            guesses.add(hash_of(test.instance.as_ref()), place);
+            guesses.add(hash_of_test(test.instance.as_ref()), place);
         }
         Ok(guesses)
     }
@@ -74,7 +77,7 @@ impl Guesses {
             test.entry.binary_id.now test.entry.test_name.now planned.instance)
             (slice_get tests.now place) false ≡ true) }
     {
-        let hash = hash_of(test);
+        let hash = hash_of_test(test);
         let first = self.first_slot(hash);
         for at in first..first.saturating_add(NEAR) {
             let Some(slot) = self.slots.get(at) else {
@@ -90,6 +93,28 @@ impl Guesses {
         None
     }
 
+    // A place that the table has for the hash of this name, where no name is compared. Which slot
+    // it is in decides no branch, so that the processor needn't wait for one before it asks for the
+    // next.
+    pub(crate) fn likely(&self, binary: &[u8], name: &[u8]) -> Option<usize> {
+        let hash = hash_of(binary, name);
+        let first = self.first_slot(hash);
+        let slots = self
+            .slots
+            .as_slice()
+            .get(first..first.saturating_add(LIKELY))?;
+        let mut place = FREE;
+        for slot in slots {
+            if slot.part == part_of(hash) {
+                place = slot.place;
+            }
+        }
+        if place == FREE {
+            return None;
+        }
+        Some(place as usize)
+    }
+
     // The first slot for a hash, as far among all as the hash is among numbers.
     fn first_slot(&self, hash: u64) -> usize {
         (u128::from(hash).wrapping_mul(self.width as u128) >> 64) as usize
@@ -101,10 +126,15 @@ fn part_of(hash: u64) -> u32 {
     (hash & 0xffff_ffff) as u32
 }
 
-// A hash of a name.
-fn hash_of(test: TestInstanceId<'_>) -> u64 {
+// A hash of a test's name.
+fn hash_of_test(test: TestInstanceId<'_>) -> u64 {
+    hash_of(test.binary_id.as_bytes(), test.test_name.as_bytes())
+}
+
+// A hash of a binary's id and a name in it.
+fn hash_of(binary: &[u8], name: &[u8]) -> u64 {
     let mut hasher = FoldHasher::default();
-    hasher.write(test.binary_id.as_bytes());
-    hasher.write(test.test_name.as_bytes());
+    hasher.write(binary);
+    hasher.write(name);
     hasher.finish()
 }

@@ -121,6 +121,21 @@ impl<'a> Places<'a> {
         }
     }
 
+    // The table of guesses, if there is one and tests come in no order.
+    pub(crate) fn guesses(&self) -> Option<&Guesses> {
+        if self.in_turn {
+            return None;
+        }
+        self.guesses.as_ref()
+    }
+
+    // The next look-up begins at a place.
+    pub(crate) fn begin_at(&mut self, place: usize)
+        ensures { self.new ≡ self.old }
+    {
+        self.last = place;
+    }
+
     // The same, from which the next look-up begins.
     pub(crate) fn find(&mut self, test: TestInstanceId<'_>) -> usize
         ensures place { result

@@ -8,6 +8,7 @@ ghost use Rattle.test_runner_core_run_model.specs.declared.event.Event.TheVarian
 ghost use Rattle.test_runner_core_session.specs.Names.{script_place};
 ghost use Rattle.test_runner_core_session.specs.Session.{place_in, session_of, run_test, IsKeptTest};
 
+use crate::expected::{Expected, NextTest};
 use crate::places::Places;
 use nextest_run_events_counters::{FinalRunStats, RunStats};
 use nextest_run_events_outputs::{LiveSpec, SetupScriptExecuteStatus};
@@ -35,6 +36,8 @@ pub struct KeptTest<'s, A> {
 pub struct PlanRun<'a, A: KeepAttempts> {
     plan: &'a Plan,
     places: Places<'a>,
+    // Where the tests may stand that start next.
+    expected: Expected,
     pub(crate) progress: Progress<A>,
 }
 
@@ -44,6 +47,7 @@ impl<A: KeepAttempts> Drop for PlanRun<'_, A> {
         let Self {
             plan: _,
             places: _,
+            expected: _,
             progress: _,
         } = self;
     }
@@ -82,6 +86,7 @@ impl<'a, A: KeepAttempts> PlanRun<'a, A> {
         Ok(PlanRun {
             plan,
             places: Places::new(alloc, tests),
+            expected: Expected::new(),
             progress: Progress::new(
                 alloc,
                 plan.scripts.len(),
@@ -100,6 +105,25 @@ impl<'a, A: KeepAttempts> PlanRun<'a, A> {
         self.places.sort()
     }
 
+    /// Whether it helps to say which tests start next: they come in no order, and none is expected
+    /// any more. Only time depends on it.
+    pub fn wants_tests(&self) -> bool {
+        self.expected.is_empty() && self.places.guesses().is_some()
+    }
+
+    /// Is told which tests are likely to start next, in their order: those behind the first
+    /// `MOST_EXPECTED` are passed over. The memory of all of them is read at once, so their starts
+    /// are quicker. Only time depends on it.
+    pub fn expect_tests(&mut self, tests: &[NextTest<'_>])
+        ensures { self.new ≡ self.old }
+    {
+        if let Some(guesses) = self.places.guesses() {
+            let planned = self.plan.tests.as_slice();
+            self.expected
+                .look_for(tests, guesses, planned, &self.progress);
+        }
+    }
+
     /// An attempt of a test starts: reserves the room of its end, and the first time that of all
     /// tests. An `Err` says why it can't start now, or that there was no memory, and leaves
     /// everything as it was.
@@ -108,6 +132,9 @@ impl<'a, A: KeepAttempts> PlanRun<'a, A> {
         ensures step { Starts self.old.run (place_in self.old.plan test.entry.binary_id.now
             test.entry.test_name.now) result self.new.run }
     {
+        if let Some(place) = self.expected.next() {
+            self.places.begin_at(place);
+        }
         let place = self.places.find(test);
         self.progress.start(place)
     }

@@ -1,0 +1,114 @@
+// Where the tests may stand that are expected to start next: guesses, which cost time where they are
+// wrong, and nothing else.
+use crate::guesses::Guesses;
+use test_runner_core_plan::PlanTest;
+use test_runner_core_run_model::Mark;
+use test_runner_core_run_state::{KeepAttempts, Progress};
+
+/// How many tests `expect_tests` looks for at most.
+pub const MOST_EXPECTED: usize = 32;
+
+/// A test that seems to start next, as a log has it.
+#[derive(Clone, Copy)]
+pub struct NextTest<'l> {
+    /// The bytes of the binary's id.
+    pub binary_id: &'l [u8],
+    /// The bytes of the test's name.
+    pub test_name: &'l [u8],
+}
+
+// The places where the tests may stand that are expected to start next, in their order; `None` of a
+// test for which there is no guess.
+#[derive(Clone, Copy)]
+pub(crate) struct Expected {
+    places: [Option<usize>; MOST_EXPECTED],
+    count: usize,
+    // How many of them are over.
+    passed: usize,
+}
+
+impl Expected {
+    // None is expected.
+    pub(crate) fn new() -> Expected {
+        Expected {
+            places: [None; MOST_EXPECTED],
+            count: 0,
+            passed: 0,
+        }
+    }
+
+    // Whether none is expected any more.
+    pub(crate) fn is_empty(&self) -> bool {
+        self.passed >= self.count
+    }
+
+    // The place of the next one, which is over then.
+    pub(crate) fn next(&mut self) -> Option<usize> {
+        if self.is_empty() {
+            return None;
+        }
+        let place = self.places.get(self.passed)?;
+        self.passed = self.passed.saturating_add(1);
+        *place
+    }
+
+    // Guesses where these tests stand. What is read of each of them as it starts lies in four
+    // pieces of memory, each of which tells where the next one is: a slot, the test, its name and
+    // its state. Here each piece is read of all tests before the next one is, so that the processor
+    // waits for those of all tests at once, and has them at hand as the tests start. A guess is
+    // left out as soon as what was read shows that it is wrong.
+    pub(crate) fn look_for<A: KeepAttempts>(
+        &mut self,
+        expected: &[NextTest<'_>],
+        guesses: &Guesses,
+        tests: &[PlanTest],
+        progress: &Progress<A>,
+    ) {
+        self.count = expected.len().min(MOST_EXPECTED);
+        self.passed = 0;
+        self.read_slots(expected, guesses);
+        self.read_tests(expected, tests);
+        self.read_names(expected, tests);
+        self.read_states(progress);
+    }
+
+    // Guesses the places.
+    fn read_slots(&mut self, expected: &[NextTest<'_>], guesses: &Guesses) {
+        for (place, test) in self.places.iter_mut().zip(expected) {
+            *place = guesses.likely(test.binary_id, test.test_name);
+        }
+    }
+
+    // Leaves out the places of tests with longer or shorter names.
+    fn read_tests(&mut self, expected: &[NextTest<'_>], tests: &[PlanTest]) {
+        for (place, test) in self.places.iter_mut().zip(expected) {
+            *place = place.filter(|at| match tests.get(*at) {
+                Some(planned) => planned.instance.test_name.len() == test.test_name.len(),
+                None => false,
+            });
+        }
+    }
+
+    // Leaves out the places of tests whose names end otherwise.
+    fn read_names(&mut self, expected: &[NextTest<'_>], tests: &[PlanTest]) {
+        for (place, test) in self.places.iter_mut().zip(expected) {
+            *place = place.filter(|at| match tests.get(*at) {
+                Some(planned) => {
+                    let name = planned.instance.test_name.as_str().as_bytes();
+                    name.last() == test.test_name.last()
+                }
+                None => false,
+            });
+        }
+    }
+
+    // Leaves out the places of tests that can't start.
+    fn read_states<A: KeepAttempts>(&mut self, progress: &Progress<A>) {
+        for place in self.places.iter_mut() {
+            *place = place.filter(|at| match progress.mark(*at) {
+                Some(Mark::Waiting | Mark::Between) => true,
+                _ => false,
+            });
+        }
+    }
+}
