@@ -55,7 +55,7 @@ pub use test_runner_core_platforms::{
 };
 pub use test_runner_core_run_model::{Finished, Mark, RunTest, StepRefusal, exit_status};
 pub use test_runner_core_run_state::StartFault;
-pub use test_runner_core_session::{Fate, Session};
+pub use test_runner_core_session::{Fate, MOST_EXPECTED, NextTest, Session};
 pub use test_runner_core_settings::owned_settings;
 pub use test_runner_core_streams::{
     LogReader, MemoryReader, MemoryWriter, ReportWriter, StdReader, StdWriter, WriteFailure,
