@@ -1,6 +1,6 @@
 // Where the tests may stand that are expected to start next: guesses, which cost time where they are
 // wrong, and nothing else.
-use crate::guesses::Guesses;
+use crate::guesses::{Guesses, hash_of};
 use test_runner_core_plan::PlanTest;
 use test_runner_core_run_model::Mark;
 use test_runner_core_run_state::{KeepAttempts, Progress};
@@ -66,16 +66,16 @@ impl Expected {
     ) {
         self.count = expected.len().min(MOST_EXPECTED);
         self.passed = 0;
-        self.read_slots(expected, guesses);
+        self.read_slots(&hashes_of(expected), guesses);
         self.read_tests(expected, tests);
         self.read_names(expected, tests);
         self.read_states(progress);
     }
 
-    // Guesses the places.
-    fn read_slots(&mut self, expected: &[NextTest<'_>], guesses: &Guesses) {
-        for (place, test) in self.places.iter_mut().zip(expected) {
-            *place = guesses.likely(test.binary_id, test.test_name);
+    // Guesses the places of tests whose names have these hashes.
+    fn read_slots(&mut self, hashes: &[u64], guesses: &Guesses) {
+        for (place, hash) in self.places.iter_mut().zip(hashes).take(self.count) {
+            *place = guesses.likely(*hash);
         }
     }
 
@@ -104,11 +104,20 @@ impl Expected {
 
     // Leaves out the places of tests that can't start.
     fn read_states<A: KeepAttempts>(&mut self, progress: &Progress<A>) {
-        for place in self.places.iter_mut() {
+        for place in self.places.iter_mut().take(self.count) {
             *place = place.filter(|at| match progress.mark(*at) {
                 Some(Mark::Waiting | Mark::Between) => true,
                 _ => false,
             });
         }
     }
+}
+
+// The hashes of the names of the first of these tests.
+fn hashes_of(expected: &[NextTest<'_>]) -> [u64; MOST_EXPECTED] {
+    let mut hashes = [0; MOST_EXPECTED];
+    for (hash, test) in hashes.iter_mut().zip(expected) {
+        *hash = hash_of(test.binary_id, test.test_name);
+    }
+    hashes
 }

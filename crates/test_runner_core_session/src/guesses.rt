@@ -93,26 +93,24 @@ impl Guesses {
         None
     }
 
-    // A place that the table has for the hash of this name, where no name is compared. Which slot
-    // it is in decides no branch, so that the processor needn't wait for one before it asks for the
-    // next.
-    pub(crate) fn likely(&self, binary: &[u8], name: &[u8]) -> Option<usize> {
-        let hash = hash_of(binary, name);
+    // A place that the table has for a hash, where no name is compared. What the slots have decides
+    // no branch here, so that the processor needn't wait for those of one hash before it asks for
+    // those of the next.
+    pub(crate) fn likely(&self, hash: u64) -> Option<usize> {
         let first = self.first_slot(hash);
         let slots = self
             .slots
             .as_slice()
             .get(first..first.saturating_add(LIKELY))?;
-        let mut place = FREE;
+        let mut likely = FREE;
         for slot in slots {
-            if slot.part == part_of(hash) {
-                place = slot.place;
-            }
+            let Slot { part, place } = *slot;
+            likely = if part == part_of(hash) { place } else { likely };
         }
-        if place == FREE {
+        if likely == FREE {
             return None;
         }
-        Some(place as usize)
+        Some(likely as usize)
     }
 
     // The first slot for a hash, as far among all as the hash is among numbers.
@@ -132,7 +130,7 @@ fn hash_of_test(test: TestInstanceId<'_>) -> u64 {
 }
 
 // A hash of a binary's id and a name in it.
-fn hash_of(binary: &[u8], name: &[u8]) -> u64 {
+pub(crate) fn hash_of(binary: &[u8], name: &[u8]) -> u64 {
     let mut hasher = FoldHasher::default();
     hasher.write(binary);
     hasher.write(name);
