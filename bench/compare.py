@@ -51,6 +51,18 @@ def names_in_no_order(count):
     return loads.run_of(names, names)
 
 
+def side_by_side(count, width):
+    """Tests of one binary that start and end in no order, so many of which run at a time."""
+    names, chance, running, log = loads.names_of(count), random.Random(1), [], []
+    end = "end\tp\t{}\tpass\t-\t1\t-\t-\n".format
+    for name in chance.sample(names, count):
+        log.append(f"start\tp\t{name}\n")
+        running.append(name)
+        if len(running) == width:
+            log.append(end(running.pop(chance.randrange(width))))
+    return loads.run_of(names, [])[0], "".join(log + [end(name) for name in running])
+
+
 def with_outputs(count, size):
     """Tests that pass, each of which writes so many bytes, a half to each stream."""
     names = loads.names_of(count)
@@ -93,6 +105,7 @@ LOADS = {
     "sorted": ("200,000 tests of one binary, names in order, all pass", lambda: loads.tests(200_000)),
     "shuffled": ("the same, in the log in no order", lambda: loads.shuffled(200_000)),
     "listed": ("the same, listed in no order, in the log as listed", lambda: names_in_no_order(200_000)),
+    "side": ("the same, 16 tests at a time, which start and end in no order", lambda: side_by_side(200_000, 16)),
     "binaries": ("200,000 tests of 300 binaries, all pass", lambda: of_binaries(200_000, False)),
     "any": ("the same, in the log in no order", lambda: of_binaries(200_000, True)),
     "short": ("20,000 tests that pass, 4 KiB of output each", lambda: with_outputs(20_000, 4096)),
