@@ -5,7 +5,8 @@
 
 Build the program first by `make run`. The plain one is bench/plain/plain.rs, built here by `rustc -O` alone. Each load is a file that
 both read from standard input; they run in turns, N times each (5 where nothing is said), and of each the least time and the least peak
-memory count: processor seconds, and MB as the system tells them. Their reports have to be the same, byte for byte.
+memory count: processor seconds, and MB as the system tells them. Their reports have to be the same, byte for byte. A second table has
+what names in no order cost either program more than names in order.
 
 Of the plain program there are two for loads with rules: one whose matchers are all written by hand for these rules, and one in which the
 crate `regex` matches the regular expressions, built by Cargo from Debian's packages (`apt-get install librust-regex+default-dev`).
@@ -119,6 +120,9 @@ LOADS = {
     "regex": ("the same, the plain program with `regex`", lambda: (ruled(20), "")),
 }
 
+# Of two loads that differ in the order of names alone, the one in order first: what a program takes more for the other one is printed.
+GAPS = [("sorted", "shuffled"), ("sorted", "listed"), ("sorted", "side"), ("binaries", "any")]
+
 # Those in which the plain program has the crate `regex`.
 WITH_REGEX = ["filtered", "regex"]
 
@@ -182,6 +186,16 @@ def compare(room, program, name, runs):
         f" | {ours.seconds / other.seconds:.2f} | {ours.memory / other.memory:.2f} |",
         flush=True,
     )
+    return ours.seconds, other.seconds
+
+
+def print_gaps(took):
+    """Prints what names in no order cost each program beside names in order, by what the loads took."""
+    print("\n| Beside | Names in no order | Ours takes more | Plain takes more |\n|---|---|---|---|")
+    for ordered, other in GAPS:
+        if ordered in took and other in took:
+            ours, plain = (after - before for before, after in zip(took[ordered], took[other]))
+            print(f"| {LOADS[ordered][0]} | {LOADS[other][0]} | {ours:.3f} s | {plain:.3f} s |")
 
 
 def main():
@@ -199,8 +213,7 @@ def main():
         for name in ("plain", "measure"):
             subprocess.run(["rustc", "-O", "-o", room / name, ROOT / f"bench/plain/{name}.rs"], check=True)
         print("| Load | Ours | Plain | Time | Memory |\n|---|---|---|---|---|")
-        for name in words.loads or LOADS:
-            compare(room, words.program.resolve(), name, words.runs)
+        print_gaps({name: compare(room, words.program.resolve(), name, words.runs) for name in words.loads or LOADS})
 
 
 if __name__ == "__main__":
