@@ -32,7 +32,8 @@ pub(crate) fn look_ahead(session: &mut RecordSession<'_>, lines: &LogLines)
     }
 }
 
-// Tells a session which tests the first of these lines start.
+// Tells a session which tests the first of these lines start. It isn't inlined, so that a line after
+// which nothing is told doesn't pay for its locals.
 #[inline(never)]
 fn tell_tests(session: &mut RecordSession<'_>, lines: &[u8])
     ensures { session.new ≡ session.old }

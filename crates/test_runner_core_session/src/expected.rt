@@ -43,7 +43,7 @@ impl Expected {
     }
 
     // The place of the next one, which is over then.
-    pub(crate) fn next(&mut self) -> Option<usize> {
+    pub(crate) fn take_next(&mut self) -> Option<usize> {
         if self.is_empty() {
             return None;
         }
@@ -105,9 +105,8 @@ impl Expected {
     // Leaves out the places of tests that can't start.
     fn read_states<A: KeepAttempts>(&mut self, progress: &Progress<A>) {
         for place in self.places.iter_mut().take(self.count) {
-            *place = place.filter(|at| match progress.mark(*at) {
-                Some(Mark::Waiting | Mark::Between) => true,
-                _ => false,
+            *place = place.filter(|at| {
+                matches!(progress.mark(*at), Some(Mark::Waiting | Mark::Between))
             });
         }
     }

@@ -132,7 +132,7 @@ impl<'a, A: KeepAttempts> PlanRun<'a, A> {
         ensures step { Starts self.old.run (place_in self.old.plan test.entry.binary_id.now
             test.entry.test_name.now) result self.new.run }
     {
-        if let Some(place) = self.expected.next() {
+        if let Some(place) = self.expected.take_next() {
             self.places.begin_at(place);
         }
         let place = self.places.find(test);
