@@ -120,7 +120,7 @@ LOADS = {
     "regex": ("the same, the plain program with `regex`", lambda: (ruled(20), "")),
 }
 
-# Of two loads that differ in the order of names alone, the one in order first: what a program takes more for the other one is printed.
+# Pairs of loads of the same tests, of which the first has its names in order: what a program takes more for the other one is printed.
 GAPS = [("sorted", "shuffled"), ("sorted", "listed"), ("sorted", "side"), ("binaries", "any")]
 
 # Those in which the plain program has the crate `regex`.

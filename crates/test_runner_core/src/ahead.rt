@@ -9,8 +9,7 @@ use test_runner_core_session::{MOST_EXPECTED, NextTest, RecordSession};
 // How many lines are looked at, at most.
 const MOST_LINES: usize = 64;
 
-// How long they are, at most: a longer one takes longer than a look-up, so nothing is gained behind
-// it.
+// How long they are, at most: where lines are long, look-ups take little of the time.
 const LONGEST: usize = 256;
 
 // What the line of a start begins with.

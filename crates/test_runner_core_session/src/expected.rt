@@ -52,11 +52,11 @@ impl Expected {
         *place
     }
 
-    // Guesses where these tests stand. What is read of each of them as it starts lies in four
-    // pieces of memory, each of which tells where the next one is: a slot, the test, its name and
-    // its state. Here each piece is read of all tests before the next one is, so that the processor
-    // waits for those of all tests at once, and has them at hand as the tests start. A guess is
-    // left out as soon as what was read shows that it is wrong.
+    // Guesses where these tests stand. As a test starts, four pieces of memory are read that wait for
+    // one another: a slot, which tells its place, the test there, its name and its state. Here each
+    // of them is read of all these tests before the next one is, so that the processor waits for
+    // several at once, and has them at hand as the tests start. A guess is left out as soon as what
+    // was read shows that it is wrong.
     pub(crate) fn look_for<A: KeepAttempts>(
         &mut self,
         expected: &[NextTest<'_>],

@@ -111,9 +111,10 @@ impl<'a, A: KeepAttempts> PlanRun<'a, A> {
         self.expected.is_empty() && self.places.guesses().is_some()
     }
 
-    /// Is told which tests are likely to start next, in their order: those behind the first
-    /// `MOST_EXPECTED` are passed over. The memory of all of them is read at once, so their starts
-    /// are quicker. Only time depends on it.
+    /// Is told which tests are likely to start next, in their order, in place of those that were
+    /// expected before; those behind the first `MOST_EXPECTED` are passed over, and so are all
+    /// where tests come in their order. Their memory is read together, so that they start quicker;
+    /// each start takes one of them off, whichever test it is of. Only time depends on it.
     pub fn expect_tests(&mut self, tests: &[NextTest<'_>])
         ensures { self.new ≡ self.old }
     {
