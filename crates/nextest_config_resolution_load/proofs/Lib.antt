@@ -4,6 +4,7 @@ pub mod Defining
 pub mod Downward
 pub mod FilesRead
 pub mod Kept
+pub mod Knowing
 pub mod Loads
 pub mod NameChecks
 pub mod Passing

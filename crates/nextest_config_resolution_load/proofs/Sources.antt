@@ -103,7 +103,7 @@ kept_more old now new all place path source file within is here stands so adds =
 
 -- all of them
 pub files_read : {F S : Type 0} (Is : IsFilterBy F) (IsSpec : IsSpecBy S) (built_in : Members) (all : List ConfigSource) (place : ℕ) (it : ReadFiles F S) → length all ≤ place
-    → table (table_view it.tree) ≡ tree_of_files (table built_in) (map file_with_setup (filter_map file_of (take place all)))
+    → table (members_view it.tree) ≡ tree_of_files (table built_in) (map file_with_setup (filter_map file_of (take place all)))
     → AreRulesOf Is IsSpec (take place all) it.rules.items → AreReadFiles Is IsSpec built_in all it
 files_read Is IsSpec built_in all place it over tree rules =
     let whole = take_all place all over in

@@ -1,16 +1,19 @@
 -- Tables of which something is taken out, and put over others.
 use Rattle.std.proofs.Common.{◌≡◌, ℕ, Bool, codes, List, [], ◌∷◌, ◌++◌, Option, None, Some, option_map, refl, sym, ap, ◌∙◌, subst, cond, Ordering, Less, Equal, Greater, String, Global, string_bytes}
+use Rattle.std.proofs.lemmas.Bool.{true≢false}
 use Rattle.std.specs.BTreeMap.{is_at}
 use Rattle.std.specs.List.Sorted.{IsStrictlySortedBy}
 use Rattle.std.specs.Map.{keys_of, remove_entry}
+use Rattle.std.specs.Option.{is_some}
 use Rattle.std.specs.Ordering.{is_eq, match_ordering}
 use Rattle.std.specs.String.{string_cmp}
 use Rattle.toml.specs.Data.{Data, string, integer, float, boolean, datetime, array, table, Members, no_members, member, get_member}
 use Rattle.toml.specs.View.{view, members_view}
 use Rattle.nextest_config_resolution_merge.specs.Tree.{merge, over, over_given, with_member}
-use Rattle.nextest_config_resolution_merge.proofs.Keys.{IsBefore, key_cmp, equal_keys, before_less, get_before, get_set, same_key}
+use Rattle.nextest_config_resolution_merge.proofs.Keys.{IsBefore, after_set, key_cmp, equal_keys, before_less, get_before, get_set, same_key}
 use Rattle.nextest_config_resolution_merge.proofs.Tables.{Pair, before_keys, higher_set, lower_set, over_none, over_nothing, set_either, set_first, set_twice}
 use Rattle.nextest_config_resolution_load.specs.Checks.{as_setup, file_with_setup, scripts_over}
+use Rattle.nextest_config_resolution_load.specs.Known.{profiles_of_tree}
 use Rattle.nextest_config_resolution_load.specs.Merging.{IsTakenOut, members_at, with_given}
 
 -- ---- taken out
@@ -71,6 +74,24 @@ put_back key found all rest new given put is puts sets =
     ∙ ap (λ (it : Data). with_member key it rest) (over_none put ∙ puts ∙ ap (over given) (sym (stood key found all rest is)))
     ∙ set_back key found all rest (over given (get_member key all)) is
 
+-- ---- what a table doesn't have
+
+-- that isn't put by it
+pub merged_none : (key : List ℕ) (higher lower : Members) → get_member key higher ≡ None → get_member key (merge higher lower) ≡ get_member key lower
+merged_none key no_members lower none = refl
+merged_none key (member other value more) lower none = by_order (key_cmp key other) refl (merged_none key more lower) where
+  set : get_member key (merge (member other value more) lower) ≡ after_set (key_cmp key other) (get_member key (merge more lower)) (over value (get_member other lower))
+  set = get_set key other (over value (get_member other lower)) (merge more lower)
+
+  by_order : (order : Ordering) → key_cmp key other ≡ order → (get_member key more ≡ None → get_member key (merge more lower) ≡ get_member key lower)
+      → get_member key (merge (member other value more) lower) ≡ get_member key lower
+  by_order Less e deeper =
+      let behind : get_member key (member other value more) ≡ get_member key more = rw e refl in set ∙ rw e (deeper (sym behind ∙ none))
+  by_order Greater e deeper =
+      let behind : get_member key (member other value more) ≡ get_member key more = rw e refl in set ∙ rw e (deeper (sym behind ∙ none))
+  by_order Equal e deeper =
+      let here : get_member key (member other value more) ≡ Some value = rw e refl in absurd (true≢false (ap is_some (sym here ∙ none)))
+
 -- ---- a file whose profiles were put over a tree, and then its rest
 
 abbrev profile : List ℕ
@@ -107,16 +128,24 @@ put_whole (Some given) file rest tree put new is puts merges =
     ∙ ap (λ (it : Option Data). with_member profile (over_given it value) (merge setup tree)) (lacks_by rest (get_member (codes "script") rest) is.1)
     ∙ sym (ap (λ (it : Members). merge (file_with_setup it) tree) is.0 ∙ ap (λ (it : Members). merge it tree) (setup_with given rest) ∙ higher_set profile given setup tree)
 
+-- the rest of a file leaves the profiles as they are
+pub same_profiles : (found : Option Data) (file rest put new : Members) → IsTakenOut profile found file rest → new ≡ merge (file_with_setup rest) put
+    → profiles_of_tree new ≡ profiles_of_tree put
+same_profiles found file rest put new is merges =
+    ap profiles_of_tree merges
+    ∙ ap members_at (merged_none profile (file_with_setup rest) put (lacks_by rest (get_member (codes "script") rest) (lacks profile found file rest is)))
+
+-- and a table of them that is put back is what a tree has
+pub put_profiles : (found : Option Data) (all rest new profiles : Members) → IsTakenOut profile found all rest
+    → new ≡ with_member profile (over (table profiles) (get_member profile rest)) rest → profiles_of_tree new ≡ profiles
+put_profiles found all rest new profiles is sets =
+    ap profiles_of_tree (sets ∙ ap (λ (it : Option Data). with_member profile (over (table profiles) it) rest) (lacks profile found all rest is))
+    ∙ ap members_at (get_set profile profile (table profiles) rest)
+
 -- ---- members that are put over others, the last one first
 
--- a key before all of a table isn't put by that
-merged_before : (key : List ℕ) (higher lower : Members) → IsBefore key higher → get_member key (merge higher lower) ≡ get_member key lower
-merged_before key no_members lower before = refl
-merged_before key (member other value more) lower before =
-    get_set key other (over value (get_member other lower)) (merge more lower) ∙ rw before.0 (merged_before key more lower before.1)
-
 -- keys that rise are below those behind them
-behind_keys : (front : List Pair) (pair : Pair) (rest : List Pair) → IsStrictlySortedBy string_cmp (keys_of (front ++ pair ∷ rest)) → IsBefore (string_bytes pair.0) (members_view rest)
+pub behind_keys : (front : List Pair) (pair : Pair) (rest : List Pair) → IsStrictlySortedBy string_cmp (keys_of (front ++ pair ∷ rest)) → IsBefore (string_bytes pair.0) (members_view rest)
 unfolding IsStrictlySortedBy
 behind_keys [] pair rest rise = before_keys pair.0 rest rise.0
 behind_keys (first ∷ front) pair rest rise = behind_keys front pair rest rise.1
@@ -130,7 +159,7 @@ put_first front pair behind lower now new rise is sets =
     let merged : Members = merge (members_view behind) lower in
     sets
     ∙ ap (λ (it : Members). with_member key (over (view pair.1) (get_member key it)) it) is
-    ∙ ap (λ (it : Option Data). with_member key (over (view pair.1) it) merged) (merged_before key (members_view behind) lower (behind_keys front pair behind rise))
+    ∙ ap (λ (it : Option Data). with_member key (over (view pair.1) it) merged) (merged_none key (members_view behind) lower (get_before key (members_view behind) (behind_keys front pair behind rise)))
 
 -- all of them, over what stood there
 pub over_at : (pairs : List Pair) → IsStrictlySortedBy string_cmp (keys_of pairs) → (below : Option Data) (new : Members) → new ≡ merge (members_view pairs) (members_at below)

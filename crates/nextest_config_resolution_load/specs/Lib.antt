@@ -1,6 +1,7 @@
 pub mod Checks
 pub mod File
 pub mod Kinds
+pub mod Known
 pub mod Languages
 pub mod Laws
 pub mod Load

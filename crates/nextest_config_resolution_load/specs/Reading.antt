@@ -1,13 +1,12 @@
 -- What calls of this crate give on their way to a configuration.
-use Rattle.std.specs.Prelude.{◌≡◌, ℕ, Bool, not, List, [], ◌∷◌, ◌++◌, Vec, codes, get_or, map, reverse, filter_map, Option, None, Some, option_to_list, Result, Ok, Err, ⊤}
+use Rattle.std.specs.Prelude.{◌≡◌, ℕ, Bool, true, false, not, List, [], ◌∷◌, ◌++◌, codes, get_or, map, reverse, filter_map, Option, None, Some, option_to_list, Result, Ok, Err, ⊤}
 use Rattle.std.specs.BTreeSet.{BTreeSet, contains_by}
 use Rattle.std.specs.Cmp.Lexicographic.{slice_cmp}
-use Rattle.std.specs.Global.{Global}
 use Rattle.std.specs.List.{AllZip, flat_map}
 use Rattle.std.specs.Ordering.{nat_cmp}
 use denote.Ref.{Bor}
 use Rattle.toml.specs.Data.{Data, table, Members}
-use Rattle.toml.specs.View.{table_view}
+use Rattle.toml.specs.View.{members_view}
 use Rattle.nextest_config_elements_toml.specs.Paths.{GivesAt}
 use Rattle.nextest_config_elements_toml.specs.Reading.{Path, Reading, ◌>>=◌, under}
 use Rattle.nextest_config_elements_toml.specs.declared.value_error.ValueError.{ValueError}
@@ -19,10 +18,13 @@ use Rattle.nextest_config_resolution_load.specs.Load.{AreReadRules, AreReadScrip
 use Rattle.nextest_config_resolution_load.specs.Rules.{rules_at, script_placed_in, script_rules_at}
 use Rattle.nextest_config_resolution_load.specs.Rules as words
 use Rattle.nextest_config_resolution_load.specs.declared.file_config.ProfileRules.{ProfileRules}
+use Rattle.nextest_config_resolution_load.specs.declared.file_reading.ReadProfile.{ReadProfile}
+use Rattle.nextest_config_resolution_load.specs.declared.file_reading.ReadProfiles.{ReadProfiles}
 use Rattle.nextest_config_resolution_load.specs.declared.languages.FilterPurpose.TheVariants as purpose
 use Rattle.nextest_config_resolution_load.specs.declared.load_error.LoadError.{LoadError}
 use Rattle.nextest_config_resolution_load.specs.declared.load_error.LoadError.TheVariants as told_error
 use Rattle.nextest_config_resolution_load.specs.declared.loaded_config.LoadedConfig.{LoadedConfig}
+use Rattle.nextest_config_resolution_load.specs.declared.loaded_config.NamedProfile.{NamedProfile}
 use Rattle.nextest_config_resolution_load.specs.declared.loaded_config.ReadConfig.{ReadConfig}
 use Rattle.nextest_config_resolution_load.specs.declared.loaded_rule.LoadedRule.{LoadedRule}
 use Rattle.nextest_config_resolution_load.specs.declared.placed_file.ReadFile.{ReadFile}
@@ -41,6 +43,11 @@ abbrev pub GivesSeen : {A B : Type 0} → (A → B) → Result A ValueError → 
 GivesSeen view (Ok x) reading = reading ≡ Ok (view x)
 GivesSeen view (Err (error.Refused bad)) reading = reading ≡ Err bad.path.keys
 GivesSeen view (Err error.OutOfMemory) reading = ⊤
+
+-- the same of what it reads at a path
+abbrev pub GivesSeenAt : {A B : Type 0} → (A → B) → Path → Result A ValueError → Reading B → Type 0
+GivesSeenAt {A} {B} view path (Ok x) reading = reading ≡ Ok (view x)
+GivesSeenAt {A} {B} view path (Err told) reading = GivesAt {A = B} path (Err told) reading
 
 -- ---- the rules of sources
 
@@ -91,10 +98,10 @@ third keys = get_or keys 2 []
 abbrev pub refused_values : Path → Reading ProfileConfig
 refused_values path = Err path
 
--- profiles that a call gives in reverse, of those that stand under `profile`
-abbrev pub GivesBackward : Result (Vec ProfileRules Global) ValueError → Reading (List ProfileRules) → Type 0
-GivesBackward (Ok found) reading = reading ≡ Ok (reverse found.items)
-GivesBackward (Err told) reading = GivesAt {A = List ProfileRules} (codes "profile" ∷ []) (Err told) reading
+-- what a call gives of some profiles, those behind others first, are their rules: it reads them under
+-- `profile`
+abbrev pub GivesBackward : Result ReadProfiles ValueError → Reading (List ProfileRules) → Type 0
+GivesBackward read reading = GivesSeenAt (λ it. reverse it.rules.items) (codes "profile" ∷ []) read reading
 
 -- the profile of a name, and others behind it
 abbrev pub first_and : List ℕ → Reading ProfileRules → Reading (List ProfileRules) → Reading (List ProfileRules)
@@ -104,9 +111,21 @@ first_and name first others = do
   Ok (one ∷ more)
 
 -- what a call read of a profile is put before what others gave
-abbrev pub IsPutBefore : Result ProfileRules ValueError → Result (Vec ProfileRules Global) ValueError → Result (Vec ProfileRules Global) ValueError → Type 0
+abbrev pub IsPutBefore : Result ReadProfile ValueError → Result ReadProfiles ValueError → Result ReadProfiles ValueError → Type 0
 IsPutBefore one others result = (name : List ℕ) (first : Reading ProfileRules) (rest : Reading (List ProfileRules))
-    → GivesAt (profile_path name) one first → GivesBackward others rest → GivesBackward result (first_and name first rest)
+    → GivesSeenAt (λ it. it.rules) (profile_path name) one first → GivesBackward others rest → GivesBackward result (first_and name first rest)
+
+-- what a call read of a profile is known of it, where that is all that a tree will have at its name
+abbrev pub known_if : Bool → Result ReadProfile ValueError → List NamedProfile
+known_if true (Ok it) = record { name = it.rules.profile; config = it.config } ∷ []
+known_if true (Err told) = []
+known_if false one = []
+
+-- what is known by then
+abbrev pub KnowsMore : Bool → Result ReadProfile ValueError → Result ReadProfiles ValueError → Result ReadProfiles ValueError → Type 0
+KnowsMore hides one (Ok others) (Ok it) = it.known.items ≡ others.known.items ++ known_if hides one
+KnowsMore hides one (Err told) (Ok it) = ⊥
+KnowsMore hides one others (Err told) = ⊤
 
 -- a call parses the text of a file, or it is no TOML; want of memory says nothing
 abbrev pub ParsesText : {T : Type 0} → (T → Members) → List ℕ → Option Members → Result T LoadError → Type 0
@@ -116,12 +135,12 @@ ParsesText view path given (Err told_error.OutOfMemory) = ⊤
 
 -- what was read of the file at a path, if there is one: what it comes to over a tree, and its rules
 pub record IsReadFile {F S : Type 0} (Is : IsFilterBy F) (IsSpec : IsSpecBy S) (path : List ℕ) (given : Option Members) (lower : Members) (it : ReadFile F S) : Type 0 where
-  pub tree : table (table_view it.tree) ≡ tree_of_files (table lower) (map file_with_setup (option_to_list given))
+  pub tree : table (members_view it.tree) ≡ tree_of_files (table lower) (map file_with_setup (option_to_list given))
   pub rules : AreReadInFile Is IsSpec (rules_in path given) it.rules
 
 -- what was read of some sources: what their files come to over what is built in, and their rules
 pub record AreReadFiles {F S : Type 0} (Is : IsFilterBy F) (IsSpec : IsSpecBy S) (built_in : Members) (sources : List ConfigSource) (it : ReadFiles F S) : Type 0 where
-  pub tree : table (table_view it.tree) ≡ tree_of_files (table built_in) (map file_with_setup (filter_map file_of sources))
+  pub tree : table (members_view it.tree) ≡ tree_of_files (table built_in) (map file_with_setup (filter_map file_of sources))
   pub rules : AreRulesOf Is IsSpec sources it.rules.items
 
 -- ---- names

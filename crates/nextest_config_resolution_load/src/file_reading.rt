@@ -1,12 +1,13 @@
 // How a file is read, key by key, and put over lower ones.
-ghost use Rattle.std.specs.Prelude.{◌≡◌, ◌++◌, [], ◌∷◌, codes, Option, Some, option_map, OnOk};
+ghost use Rattle.std.specs.Prelude.{◌≡◌, ◌++◌, [], ◌∷◌, codes, Err, IfOk, Ok, Option, Some, option_map, OnOk};
 ghost use Rattle.std.specs.Cmp.Lexicographic.{slice_cmp};
 ghost use Rattle.std.specs.Ordering.{match_ordering, nat_cmp};
 ghost use Rattle.toml.specs.Data.{Data, table};
-ghost use Rattle.toml.specs.View.{table_view, view};
+ghost use Rattle.toml.specs.View.{members_view, table_view, view};
 ghost use Rattle.nextest_config_elements_toml.specs.Paths.{Gives, GivesAt};
 ghost use Rattle.nextest_config_elements_toml.specs.Reading.{Path, under};
-ghost use Rattle.nextest_config_resolution_load.specs.Reading.{IsPutBefore, refused_values, third};
+ghost use Rattle.nextest_config_resolution_load.specs.Known.{AreKnown};
+ghost use Rattle.nextest_config_resolution_load.specs.Reading.{GivesSeenAt, IsPutBefore, KnowsMore, refused_values, third};
 ghost use Rattle.nextest_config_elements_deserialize.specs.Keys.{table_by};
 ghost use Rattle.nextest_config_elements_deserialize.specs.Paths.{profile_path};
 ghost use Rattle.nextest_config_elements_versions.specs.Demand as demand;
@@ -17,9 +18,12 @@ ghost use Rattle.nextest_config_resolution_merge.specs.Tree.{merge, over};
 ghost use Rattle.nextest_config_resolution_overrides.specs.Groups.{groups_at};
 ghost use Rattle.nextest_config_resolution_scripts.specs.Scripts.{old_scripts_at, scripts_at};
 ghost use Rattle.nextest_config_resolution_values.specs.File.{store_dir_at};
+ghost use Rattle.nextest_config_resolution_values.specs.Profile.{profile_in, profile_of};
 
 use crate::file_config::{FileConfig, ProfileRules};
+use crate::loaded_config::NamedProfile;
 use crate::merging::{file_over, table_at, take_out};
+use crate::tree::Tree;
 use nextest_config_elements_toml::{BadValue, ValueError, member, refused};
 use nextest_config_elements_versions::{deserialize_experimental, deserialize_nextest_version};
 use nextest_config_resolution_merge::put_over;
@@ -30,7 +34,7 @@ use nextest_config_resolution_scripts::{
     NamedScript, ScriptConfig, ScriptRuleConfig, SetupScriptConfig, deserialize_old_scripts,
     deserialize_script_rules, deserialize_scripts,
 };
-use nextest_config_resolution_values::{deserialize_profile, deserialize_store_dir};
+use nextest_config_resolution_values::{ProfileConfig, deserialize_profile, deserialize_store_dir};
 use nextest_text::{Listing, Text};
 use std::alloc::Global;
 use std::cmp::Ordering;
@@ -45,11 +49,11 @@ use toml::{Table, Value};
 pub(crate) fn read_file(
     alloc: Global,
     file: Table,
-    tree: &mut Table,
+    tree: &mut Tree,
 ) -> Result<FileConfig, ValueError>
     ensures read { Gives [] result (file_in (table_view file)) }
-    ensures tree { OnOk result (table_view tree.new
-        ≡ merge (file_with_setup (table_view file)) (table_view tree.old)) }
+    ensures tree { OnOk result (members_view tree.new
+        ≡ merge (file_with_setup (table_view file)) (members_view tree.old)) }
 {
     check_experimental(alloc, &file)?;
     check_nextest_version(alloc, &file)?;
@@ -126,17 +130,19 @@ fn read_scripts(alloc: Global, table: &Table) -> Result<ScriptConfig, ValueError
 fn put_file(
     alloc: Global,
     file: Table,
-    tree: &mut Table,
+    tree: &mut Tree,
 ) -> Result<Listing<ProfileRules>, ValueError>
     ensures read { Gives [] result (profiles_at_file (table_view file)) }
-    ensures tree { OnOk result (table_view tree.new
-        ≡ merge (file_with_setup (table_view file)) (table_view tree.old)) }
+    ensures tree { OnOk result (members_view tree.new
+        ≡ merge (file_with_setup (table_view file)) (members_view tree.old)) }
 {
     let mut rest = file;
     let given = take_out(&mut rest, "profile");
     let profiles = put_profiles(alloc, given, tree)?;
-    let lower = mem::replace(tree, Table::new(alloc));
-    *tree = file_over(alloc, rest, lower)?;
+    let lower = mem::replace(tree, Tree::new(alloc, Table::new(alloc)));
+    let (table, known) = lower.into_parts();
+    let table = file_over(alloc, rest, table)?;
+    *tree = Tree { table, known };
     Ok(profiles)
 }
 
@@ -144,12 +150,12 @@ fn put_file(
 fn put_profiles(
     alloc: Global,
     given: Option<Value>,
-    tree: &mut Table,
+    tree: &mut Tree,
 ) -> Result<Listing<ProfileRules>, ValueError>
     ensures read { Gives [] result
         (under (codes "profile") (profiles_of_file (option_map view given))) }
-    ensures tree { OnOk result (table_view tree.new
-        ≡ with_given (codes "profile") (option_map view given) (table_view tree.old)) }
+    ensures tree { OnOk result (members_view tree.new
+        ≡ with_given (codes "profile") (option_map view given) (members_view tree.old)) }
 {
     match given {
         None => Ok(Listing::new(alloc)),
@@ -158,74 +164,118 @@ fn put_profiles(
     }
 }
 
-// The profiles of a table, which is put over what a tree has under `profile`.
+// The profiles of a table, which is put over what a tree has under `profile`. What was known of the
+// tree's profiles is dropped.
 fn put_table(
     alloc: Global,
     profiles: Table,
-    tree: &mut Table,
+    tree: &mut Tree,
 ) -> Result<Listing<ProfileRules>, ValueError>
     ensures read { GivesAt (codes "profile" ∷ []) result (profiles_in_file (table_view profiles)) }
-    ensures tree { OnOk result (table_view tree.new ≡ with_given (codes "profile")
-        (Some (table (table_view profiles))) (table_view tree.old)) }
+    ensures tree { OnOk result (members_view tree.new ≡ with_given (codes "profile")
+        (Some (table (table_view profiles))) (members_view tree.old)) }
 {
-    let below = take_out(tree, "profile");
+    let lower = mem::replace(tree, Tree::new(alloc, Table::new(alloc)));
+    let (mut table, _) = lower.into_parts();
+    let below = take_out(&mut table, "profile");
     let mut merged = table_at(alloc, below);
-    let read = put_each(alloc, profiles, &mut merged)?;
+    let (rules, known) = put_each(alloc, profiles, &mut merged)?;
     let key = String::from_str(alloc, "profile")?;
-    put_over(alloc, tree, key, Value::Table(merged))?;
-    Ok(read)
+    put_over(alloc, &mut table, key, Value::Table(merged))?;
+    *tree = Tree { table, known };
+    Ok(rules)
 }
 
 // Each profile of a table, which is put over lower ones, the last one first: of a long text that
-// was just read as TOML, the end is what a cache still has.
+// was just read as TOML, the end is what a cache still has. Those that hide all that is lower need
+// not be read any more.
 fn put_each(
     alloc: Global,
     profiles: Table,
     lower: &mut Table,
-) -> Result<Listing<ProfileRules>, ValueError>
-    ensures read { GivesAt (codes "profile" ∷ []) result (profiles_in_file (table_view profiles)) }
+) -> Result<(Listing<ProfileRules>, Vec<NamedProfile>), ValueError>
+    ensures read { GivesSeenAt (λ it. it.0) (codes "profile" ∷ []) result
+        (profiles_in_file (table_view profiles)) }
     ensures merged { (below : Option Data) → members_at below ≡ table_view lower.old → OnOk result
         (table (table_view lower.new) ≡ over (table (table_view profiles)) below) }
+    ensures known { IfOk result (λ it. AreKnown (table_view lower.new) it.1.items) }
 {
-    let mut read = Ok(Vec::new(alloc));
+    let mut read = Ok(ReadProfiles {
+        rules: Vec::new(alloc),
+        known: Vec::new(alloc),
+    });
     for (name, given) in profiles.into_iter().rev() {
         let one = read_profile(alloc, name.as_str(), &given);
-        read = before(one, read);
-        put_over(alloc, lower, name, given)?;
+        let hides_all = put_over(alloc, lower, name, given)?;
+        read = before(alloc, one, hides_all, read);
     }
-    let mut found = read?;
-    found.reverse();
-    Ok(Listing::from(found))
+    let ReadProfiles { rules, known } = read?;
+    let mut rules = rules;
+    rules.reverse();
+    Ok((Listing::from(rules), known))
+}
+
+// What was read of the last profiles of a file.
+#[derive(Drop)]
+pub(crate) struct ReadProfiles {
+    // their rules, the last profile first
+    pub(crate) rules: Vec<ProfileRules>,
+    // those that need not be read any more, the last first
+    pub(crate) known: Vec<NamedProfile>,
 }
 
 // What was read of a profile before what was read of those behind it, which stand in reverse.
 fn before(
-    one: Result<ProfileRules, ValueError>,
-    read: Result<Vec<ProfileRules>, ValueError>,
-) -> Result<Vec<ProfileRules>, ValueError>
-    ensures { IsPutBefore one read result }
+    alloc: Global,
+    one: Result<ReadProfile, ValueError>,
+    hides_all: bool,
+    read: Result<ReadProfiles, ValueError>,
+) -> Result<ReadProfiles, ValueError>
+    ensures read { IsPutBefore one read result }
+    ensures known { KnowsMore hides_all one read result }
 {
-    let one = one?;
+    let ReadProfile { rules, config } = one?;
     let mut found = read?;
-    found.push(one)?;
+    if hides_all {
+        let name = rules.profile.clone()?;
+        found.known.push(NamedProfile { name, config })?;
+    }
+    found.rules.push(rules)?;
     Ok(found)
 }
 
-// The rules of the profile of a name.
-fn read_profile(alloc: Global, name: &str, given: &Value) -> Result<ProfileRules, ValueError>
-    ensures { GivesAt (profile_path name.now) result (rules_of_profile name.now (view given.now)) }
+// What was read of a profile of a file: its rules, and what it sets itself.
+#[derive(Drop)]
+pub(crate) struct ReadProfile {
+    pub(crate) rules: ProfileRules,
+    pub(crate) config: ProfileConfig,
+}
+
+// The rules of the profile of a name, and what it sets.
+fn read_profile(alloc: Global, name: &str, given: &Value) -> Result<ReadProfile, ValueError>
+    ensures rules { GivesSeenAt (λ it. it.rules) (profile_path name.now) result
+        (rules_of_profile name.now (view given.now)) }
+    ensures name { IfOk result (λ it. it.rules.profile ≡ name.now) }
+    ensures config { IfOk result (λ it. profile_of (view given.now) ≡ Ok it.config) }
 {
-    let (overrides, scripts) = read_value(alloc, name, given)?;
-    Ok(ProfileRules {
+    let ((overrides, scripts), config) = read_value(alloc, name, given)?;
+    let rules = ProfileRules {
         profile: Text::from_str(alloc, name)?,
         overrides,
         scripts,
-    })
+    };
+    Ok(ReadProfile { rules, config })
 }
 
 // What stands under the name of a profile: a table.
-fn read_value(alloc: Global, name: &str, given: &Value) -> Result<TableRules, ValueError>
-    ensures { GivesAt (profile_path name.now) result (table_by rules_in_profile (view given.now)) }
+fn read_value(
+    alloc: Global,
+    name: &str,
+    given: &Value,
+) -> Result<(TableRules, ProfileConfig), ValueError>
+    ensures rules { GivesSeenAt (λ it. it.0) (profile_path name.now) result
+        (table_by rules_in_profile (view given.now)) }
+    ensures config { IfOk result (λ it. profile_of (view given.now) ≡ Ok it.1) }
 {
     match given {
         Value::Table(table) => read_table(alloc, name, table),
@@ -233,13 +283,20 @@ fn read_value(alloc: Global, name: &str, given: &Value) -> Result<TableRules, Va
     }
 }
 
-// The rules of a profile whose values can stand at their keys, or what is refused first.
-fn read_table(alloc: Global, name: &str, table: &Table) -> Result<TableRules, ValueError>
-    ensures { GivesAt (profile_path name.now) result (rules_in_profile (table_view table.now)) }
+// The rules of a profile whose values can stand at their keys, and what it sets, or what is refused
+// first.
+fn read_table(
+    alloc: Global,
+    name: &str,
+    table: &Table,
+) -> Result<(TableRules, ProfileConfig), ValueError>
+    ensures rules { GivesSeenAt (λ it. it.0) (profile_path name.now) result
+        (rules_in_profile (table_view table.now)) }
+    ensures config { IfOk result (λ it. profile_in (table_view table.now) ≡ Ok it.1) }
 {
     match deserialize_profile(alloc, name, table) {
-        Ok(_) => rules_in_table(alloc, name, table),
-        Err(ValueError::Refused(value)) => refused_in(alloc, name, table, value),
+        Ok(config) => Ok((rules_in_table(alloc, name, table)?, config)),
+        Err(ValueError::Refused(value)) => Err(refused_in(alloc, name, table, value)),
         Err(ValueError::OutOfMemory) => Err(ValueError::OutOfMemory),
     }
 }
@@ -257,20 +314,15 @@ fn rules_in_table(alloc: Global, name: &str, table: &Table) -> Result<TableRules
 }
 
 // What is refused first of a profile, of which this value is refused.
-fn refused_in(
-    alloc: Global,
-    name: &str,
-    table: &Table,
-    value: BadValue,
-) -> Result<TableRules, ValueError>
+fn refused_in(alloc: Global, name: &str, table: &Table, value: BadValue) -> ValueError
     ensures { (path : Path)
-        → value.path.keys ≡ profile_path name.now ++ path → GivesAt (profile_path name.now) result
-        (by_keys (refused_values path) (rules_in_table (table_view table.now))) }
+        → value.path.keys ≡ profile_path name.now ++ path → GivesAt (profile_path name.now)
+        (Err result) (by_keys (refused_values path) (rules_in_table (table_view table.now))) }
 {
     match rules_in_table(alloc, name, table) {
-        Ok(_) => Err(ValueError::Refused(value)),
-        Err(ValueError::Refused(other)) => Err(ValueError::Refused(first_of(value, other))),
-        Err(ValueError::OutOfMemory) => Err(ValueError::OutOfMemory),
+        Ok(_) => ValueError::Refused(value),
+        Err(ValueError::Refused(other)) => ValueError::Refused(first_of(value, other)),
+        Err(ValueError::OutOfMemory) => ValueError::OutOfMemory,
     }
 }
 

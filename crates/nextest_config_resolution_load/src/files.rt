@@ -2,7 +2,7 @@
 ghost use Rattle.std.specs.Prelude.{◌≡◌, [], None, Ok, map, IfOk, OnOk};
 ghost use Rattle.std.specs.List.{flat_map};
 ghost use Rattle.toml.specs.Parse.{parse_document};
-ghost use Rattle.toml.specs.View.{table_view};
+ghost use Rattle.toml.specs.View.{members_view, table_view};
 ghost use Rattle.nextest_config_resolution_load.specs.Checks.{document_checks, file_checks, file_of, file_with_setup, missing_checks, rules_in_file, source_checks};
 ghost use Rattle.nextest_config_resolution_merge.specs.Tree.{merge};
 ghost use Rattle.nextest_config_resolution_load.specs.File.{file_in};
@@ -18,6 +18,7 @@ use crate::load_error::LoadError;
 use crate::placed_file::{ReadFile, ReadFiles, SourceRules};
 use crate::profile_rules::load_profiles;
 use crate::refusing::{bad_value, no_toml, unread};
+use crate::tree::Tree;
 use crate::warn::keep_warnings;
 use nextest_config_elements_identifiers::ConfigSourceKind;
 use nextest_config_elements_toml::ValueError;
@@ -44,7 +45,7 @@ pub(crate) fn read_files<R: Languages>(
     ensures kept { OnOk result (AreKept kept.old kept.new
         (flat_map warnings_for (map (λ it. it.now) sources.now))) }
 {
-    let mut tree = copied(built_in)?;
+    let mut tree = Tree::new(alloc, copied(built_in)?);
     let mut rules = Vec::new(alloc);
     for source in sources {
         let read = read_source::<R>(alloc, cx, features, source, tree, kept)?;
@@ -68,12 +69,12 @@ fn read_source<R: Languages>(
     cx: &R::Cx,
     features: FeatureSet,
     source: &ConfigSource,
-    tree: Table,
+    tree: Tree,
     kept: &mut Option<KeptWarnings>,
 ) -> Result<ReadFile<R::Filter, R::Spec>, LoadError>
     ensures read { let given = file_of source.now in Passes
         (R.is_filter cx.now) R.is_spec R.is_too_deep (source_checks features source.now)
-        (IsReadFile (R.is_filter cx.now) R.is_spec source.now.path given (table_view tree)) result }
+        (IsReadFile (R.is_filter cx.now) R.is_spec source.now.path given (members_view tree)) result }
     ensures kept { OnOk result (AreKept kept.old kept.new (warnings_for source.now)) }
 {
     let path = source.path.as_str();
@@ -101,10 +102,10 @@ fn read_missing<R: Languages>(
     cx: &R::Cx,
     path: &str,
     kind: &ConfigSourceKind,
-    tree: Table,
+    tree: Tree,
 ) -> Result<ReadFile<R::Filter, R::Spec>, LoadError>
     ensures { Passes (R.is_filter cx.now) R.is_spec R.is_too_deep (missing_checks path.now kind.now)
-        (IsReadFile (R.is_filter cx.now) R.is_spec path.now None (table_view tree)) result }
+        (IsReadFile (R.is_filter cx.now) R.is_spec path.now None (members_view tree)) result }
 {
     match kind {
         ConfigSourceKind::DiscoveredRepository => Ok(ReadFile {
@@ -136,12 +137,12 @@ fn read_text<R: Languages>(
     path: &str,
     kind: &ConfigSourceKind,
     text: &str,
-    tree: Table,
+    tree: Tree,
     kept: &mut Option<KeptWarnings>,
 ) -> Result<ReadFile<R::Filter, R::Spec>, LoadError>
     ensures read { let given = parse_document text.now in Passes (R.is_filter cx.now)
         R.is_spec R.is_too_deep (document_checks features path.now kind.now given)
-        (IsReadFile (R.is_filter cx.now) R.is_spec path.now given (table_view tree)) result }
+        (IsReadFile (R.is_filter cx.now) R.is_spec path.now given (members_view tree)) result }
     ensures kept { OnOk result
         (AreKept kept.old kept.new (warnings_at path.now (parse_document text.now))) }
 {
@@ -174,13 +175,13 @@ fn read_rules<R: Languages>(
     path: &str,
     kind: &ConfigSourceKind,
     file: Table,
-    tree: &mut Table,
+    tree: &mut Tree,
 ) -> Result<SourceRules<R::Filter, R::Spec>, LoadError>
     ensures rules { let given = file_in (table_view file) in Passes (R.is_filter cx.now)
         R.is_spec R.is_too_deep (file_checks features path.now kind.now given) (λ it.
         AreReadInFile (R.is_filter cx.now) R.is_spec (rules_in_file path.now given) it) result }
-    ensures tree { OnOk result (table_view tree.new
-        ≡ merge (file_with_setup (table_view file)) (table_view tree.old)) }
+    ensures tree { OnOk result (members_view tree.new
+        ≡ merge (file_with_setup (table_view file)) (members_view tree.old)) }
 {
     match read_file(alloc, file, tree) {
         Ok(config) => rules_of::<R>(alloc, cx, features, path, kind, config),

@@ -1,6 +1,6 @@
 // What the sources of a configuration come to.
 ghost use Rattle.std.specs.Prelude.{◌≡◌, ⊤, [], ◌∷◌, IfOk, OnOk};
-ghost use Rattle.toml.specs.View.{table_view};
+ghost use Rattle.toml.specs.View.{members_view, table_view};
 ghost use Rattle.nextest_config_resolution_inheritance.specs.Inheritance.{Rise};
 ghost use Rattle.nextest_config_resolution_load.specs.Checks.{bad_merged, config_in, inheritance, merged_checks, named_checks, parents_of, value_checks};
 ghost use Rattle.nextest_config_resolution_load.specs.Load.{IsLoaded, merged_of};
@@ -18,6 +18,7 @@ use crate::loaded_config::{LoadedConfig, ReadConfig};
 use crate::named_scripts::check_scripts;
 use crate::placed_file::{ReadSources, SourceRules};
 use crate::reading::read_config;
+use crate::tree::Tree;
 use nextest_config_elements_toml::ValueError;
 use nextest_config_elements_versions::FeatureSet;
 use nextest_config_resolution_inheritance::{InheritanceError, check_inheritance};
@@ -125,8 +126,8 @@ fn read_sources<R: Languages>(
 }
 
 // What a merged tree says, whose values are all such as their keys can have.
-fn read_tree<R: Languages>(alloc: Global, cx: &R::Cx, tree: Table) -> Result<ReadConfig, LoadError>
-    ensures read { let given = config_in (table_view tree)
+fn read_tree<R: Languages>(alloc: Global, cx: &R::Cx, tree: Tree) -> Result<ReadConfig, LoadError>
+    ensures read { let given = config_in (members_view tree)
         in Passes (R.is_filter cx.now) R.is_spec R.is_too_deep (value_checks bad_merged given)
         (λ it. given ≡ read_as it) result }
     ensures rises { IfOk result (λ it. Rise (parents_of (values_of it).profiles)) }

@@ -1,8 +1,8 @@
 // What is read of sources.
 use crate::loaded_config::ReadConfig;
 use crate::loaded_rule::{LoadedOverride, LoadedScriptRule};
+use crate::tree::Tree;
 use nextest_text::Listing;
-use toml::Table;
 
 // The rules of a file.
 #[derive(Drop)]
@@ -15,14 +15,14 @@ pub(crate) struct SourceRules<Filter, Spec> {
 // rules in it.
 #[derive(Drop)]
 pub(crate) struct ReadFile<Filter, Spec> {
-    pub(crate) tree: Table,
+    pub(crate) tree: Tree,
     pub(crate) rules: SourceRules<Filter, Spec>,
 }
 
 // What was read of sources: what their files come to, and the rules of each source.
 #[derive(Drop)]
 pub(crate) struct ReadFiles<Filter, Spec> {
-    pub(crate) tree: Table,
+    pub(crate) tree: Tree,
     pub(crate) rules: Vec<SourceRules<Filter, Spec>>,
 }
 

@@ -10,8 +10,8 @@ use std::alloc::{AllocError, Global};
 use std::mem;
 use toml::{Table, Value};
 
-// How many levels below two tables are looked into before they are merged: so no table is walked
-// over more than three times, however deep it stands.
+// How many levels below two tables are looked into before they are merged: so `merge` walks over no
+// table more than three times, and `put_over` over none more than four, however deep it stands.
 const LEVELS: usize = 1;
 
 /// The table of `higher` over `lower`: tables that both have at a key are joined likewise, and
@@ -124,8 +124,9 @@ fn table_under(alloc: Global, higher: Value, lower: Table) -> Result<Value, Allo
     }
 }
 
-/// Puts a value at a key of a table, over what stands there: tables are joined as `merge` joins
-/// them, and else the value hides what stood there. It moves, and no text is copied.
+/// Whether a value that is put at a key of a table, over what stands there, is seen to hide all of
+/// that: the value itself stands there then. Where it isn't, tables are joined as `merge` joins
+/// them, and else the value hides what stood there too. It moves, and no text is copied.
 ///
 /// # Errors
 ///
@@ -135,18 +136,24 @@ pub fn put_over(
     table: &mut Table,
     key: String,
     value: Value,
-) -> Result<(), AllocError>
-    ensures { OnOk result (table_view table.new ≡ with_member (string_bytes key)
+) -> Result<bool, AllocError>
+    ensures table { OnOk result (table_view table.new ≡ with_member (string_bytes key)
         (over (view value) (get_member (string_bytes key) (table_view table.old)))
         (table_view table.old)) }
+    ensures hides { IfOk result (λ it. IsTrue it
+        → over (view value) (get_member (string_bytes key) (table_view table.old)) ≡ view value) }
 {
     let Some(below) = table.get_mut(&key) else {
         table.insert(key, value)?;
-        return Ok(());
+        return Ok(true);
     };
     let lower = mem::replace(below, Value::Boolean(false));
+    if is_hidden(Some(&value), &lower, LEVELS + 1) {
+        *below = value;
+        return Ok(true);
+    }
     *below = value_over(alloc, value, lower)?;
-    Ok(())
+    Ok(false)
 }
 
 // A value over another: under a table only a table shows.

@@ -1,7 +1,7 @@
 use Rattle.std.proofs.Common.{◌≡◌, Bor, List, filter_map, map, ap, ◌∙◌, subst}
 use Rattle.std.specs.List.{AllByRecursion, flat_map}
 use Rattle.toml.specs.Data.{table, Members}
-use Rattle.toml.specs.View.{table_view}
+use Rattle.toml.specs.View.{members_view, table_view}
 use Rattle.nextest_config_resolution_load.specs.Checks.{bad_merged, config_in, file_of, file_with_setup, members_of, merged_in, source_checks, tree_of_files, value_checks}
 use Rattle.nextest_config_resolution_load.specs.Load.{IsKept}
 use Rattle.nextest_config_resolution_load.specs.Reading.{AreReadSources, AreRulesOf, early_checks, read_as}
@@ -48,7 +48,7 @@ returns-in_err-config-clause-read g c =
     let sources = c.args.sources.now in
     let told = c.in_err-config.field-0.0 in
     let same = counted sources c.as_slice.result.now _ c.as_slice.ensures.value c.in_ok-counted.ensures in
-    let tree = merged built_in sources (map (λ it. it.now) c.as_slice.result.now) (table_view c.in_ok-read.read.tree) same c.in_ok-read.ensures.read.1.tree in
+    let tree = merged built_in sources (map (λ it. it.now) c.as_slice.result.now) (members_view c.in_ok-read.read.tree) same c.in_ok-read.ensures.read.1.tree in
     passes_on Is IsSpec IsTooDeep (AreReadSources Is IsSpec built_in sources) (early_checks features built_in sources) told c.from_residual-in_err-config.result
     (refuses_behind Is IsSpec IsTooDeep (flat_map (source_checks features) (counting_sources sources)) (value_checks bad_merged (config_in (merged_in built_in sources))) told
     (subst (λ (all : List ConfigSource). AllByRecursion (IsKept Is IsSpec) (flat_map (source_checks features) all)) same c.in_ok-read.ensures.read.0)
@@ -65,7 +65,7 @@ returns-clause-read g c =
     let config = c.in_ok-config.config in
     let read = c.in_ok-read.read in
     let same = counted sources c.as_slice.result.now _ c.as_slice.ensures.value c.in_ok-counted.ensures in
-    let tree = merged built_in sources (map (λ it. it.now) c.as_slice.result.now) (table_view read.tree) same c.in_ok-read.ensures.read.1.tree in (
+    let tree = merged built_in sources (map (λ it. it.now) c.as_slice.result.now) (members_view read.tree) same c.in_ok-read.ensures.read.1.tree in (
       kept_both Is IsSpec g.R.Languages.is_too_deep (flat_map (source_checks features) (counting_sources sources)) (value_checks bad_merged (config_in (merged_in built_in sources)))
           (subst (λ (all : List ConfigSource). AllByRecursion (IsKept Is IsSpec) (flat_map (source_checks features) all)) same c.in_ok-read.ensures.read.0)
           (subst (λ (top : Members). AllByRecursion (IsKept Is IsSpec) (value_checks bad_merged (config_in top))) tree c.in_ok-config.ensures.read.0),

@@ -1,6 +1,6 @@
 use Rattle.std.proofs.Common.{inl, refl, sym, subst}
 use Rattle.std.specs.List.{AllByRecursion}
-use Rattle.toml.specs.View.{table_view}
+use Rattle.toml.specs.View.{members_view}
 use Rattle.nextest_config_elements_toml.specs.Reading.{Reading}
 use Rattle.nextest_config_resolution_load.specs.Checks.{bad_merged, config_in, MergedConfig, value_checks}
 use Rattle.nextest_config_resolution_load.specs.Load.{BreaksFirst, IsKept}
@@ -18,4 +18,4 @@ returns-in-Err-Refused-clause-read g c =
     let bad = c.in-Err-Refused in
     subst (λ (reading : Reading MergedConfig). BreaksFirst (g.R.Languages.is_filter c.args.cx.now) g.R.Languages.is_spec g.R.Languages.is_too_deep (value_checks bad_merged reading)
     (bad_merged bad.value.path.keys))
-    (sym (seen_refused values_of (config_in (table_view c.args.tree)) bad.field-0 bad.value bad.field-0-is bad.ensures.read)) (inl refl)
+    (sym (seen_refused values_of (config_in (members_view c.args.tree)) bad.field-0 bad.value bad.field-0-is bad.ensures.read)) (inl refl)

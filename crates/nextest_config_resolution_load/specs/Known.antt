@@ -1,0 +1,18 @@
+-- What is known of the profiles of a tree, before they are read of it.
+use Rattle.std.specs.Prelude.{◌≡◌, List, Some, Ok, codes, option_map}
+use Rattle.std.specs.List.{AllByRecursion}
+use Rattle.toml.specs.Data.{Members, get_member}
+use Rattle.nextest_config_resolution_load.specs.Merging.{members_at}
+use Rattle.nextest_config_resolution_load.specs.declared.loaded_config.NamedProfile.{NamedProfile}
+use Rattle.nextest_config_resolution_values.specs.Profile.{profile_of}
+
+-- a profile is what a table of profiles says at its name
+abbrev pub IsKnown : Members → NamedProfile → Type 0
+IsKnown profiles it = option_map profile_of (get_member it.name profiles) ≡ Some (Ok it.config)
+
+abbrev pub AreKnown : Members → List NamedProfile → Type 0
+AreKnown profiles known = AllByRecursion (IsKnown profiles) known
+
+-- the profiles of a tree
+abbrev pub profiles_of_tree : Members → Members
+profiles_of_tree tree = members_at (get_member (codes "profile") tree)
