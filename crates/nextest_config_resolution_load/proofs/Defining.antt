@@ -31,15 +31,15 @@ use Rattle.nextest_config_resolution_sources.specs.declared.source.ConfigSource.
 -- ---- what holds of all items of lists
 
 module _ {A : Type 0} (P : A → Type 0) where
-  all_both : (xs ys : List A) → AllByRecursion P xs → AllByRecursion P ys → AllByRecursion P (xs ++ ys)
+  pub all_both : (xs ys : List A) → AllByRecursion P xs → AllByRecursion P ys → AllByRecursion P (xs ++ ys)
   all_both [] ys one other = other
   all_both (x ∷ xs) ys one other = (one.0, all_both xs ys one.1 other)
 
-  all_before : (xs ys : List A) → AllByRecursion P (xs ++ ys) → AllByRecursion P xs
+  pub all_before : (xs ys : List A) → AllByRecursion P (xs ++ ys) → AllByRecursion P xs
   all_before [] ys all = tt
   all_before (x ∷ xs) ys all = (all.0, all_before xs ys all.1)
 
-  all_behind : (xs ys : List A) → AllByRecursion P (xs ++ ys) → AllByRecursion P ys
+  pub all_behind : (xs ys : List A) → AllByRecursion P (xs ++ ys) → AllByRecursion P ys
   all_behind [] ys all = all
   all_behind (x ∷ xs) ys all = all_behind xs ys all.1
 

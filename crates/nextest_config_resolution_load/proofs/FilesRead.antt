@@ -16,7 +16,7 @@ use Rattle.nextest_config_elements_toml.specs.declared.bad_value.BadValue.{BadVa
 use Rattle.nextest_config_elements_toml.specs.declared.value_error.ValueError.{ValueError}
 use Rattle.nextest_config_elements_deserialize.specs.Paths.{profile_path}
 use Rattle.nextest_config_resolution_load.specs.File.{by_keys, first_key, first_path, profiles_in_file, rules_of_profile}
-use Rattle.nextest_config_resolution_load.specs.Known.{AreKnown}
+use Rattle.nextest_config_resolution_load.specs.Known.{AreKnown, unboxed}
 use Rattle.nextest_config_resolution_load.specs.Reading.{GivesBackward, GivesSeenAt, IsPutBefore, KnowsMore, refused_values, third}
 use Rattle.nextest_config_resolution_merge.specs.Tree.{merge, over, with_member}
 use Rattle.nextest_config_resolution_load.proofs.Knowing.{known_more}
@@ -38,17 +38,17 @@ pub record PutBackward (all left : List Entry) (lower now : Members) (read : Res
   pub whole : all ≡ left ++ behind
   pub gives : GivesBackward read (profiles_in_file (members_view behind))
   pub puts : now ≡ merge (members_view behind) lower
-  pub knows : IfOk read (λ it. AreKnown (members_view behind) it.known.items × AreKnown now it.known.items)
+  pub knows : IfOk read (λ it. AreKnown (members_view behind) (unboxed it.known.items) × AreKnown now (unboxed it.known.items))
 
 -- one more
-pub put_one : (all left : List Entry) (entry : Entry) (lower now new : Members) (hides : Bool) (one : Result ReadProfile ValueError) (read result : Result ReadProfiles ValueError)
+pub put_one : (all left : List Entry) (entry : Entry) (lower now new : Members) (is_known : Bool) (one : Result ReadProfile ValueError) (read result : Result ReadProfiles ValueError)
     → IsStrictlySortedBy string_cmp (keys_of all) → PutBackward all (left ++ entry ∷ []) lower now read
     → GivesSeenAt (λ it. it.rules) (profile_path (string_bytes entry.0)) one (rules_of_profile (string_bytes entry.0) (view entry.1))
     → IfOk one (λ it. it.rules.profile ≡ string_bytes entry.0) → IfOk one (λ it. profile_of (view entry.1) ≡ Ok it.config)
-    → IsPutBefore one read result → KnowsMore hides one read result
+    → IsPutBefore one read result → KnowsMore is_known one read result
     → new ≡ with_member (string_bytes entry.0) (over (view entry.1) (get_member (string_bytes entry.0) now)) now
-    → (hides ≡ true → over (view entry.1) (get_member (string_bytes entry.0) now) ≡ view entry.1) → PutBackward all left lower new result
-put_one all left entry lower now new hides one read result rise is reads named says put more sets hidden =
+    → (is_known ≡ true → over (view entry.1) (get_member (string_bytes entry.0) now) ≡ view entry.1) → PutBackward all left lower new result
+put_one all left entry lower now new is_known one read result rise is reads named says put more sets hidden =
     let whole : all ≡ left ++ (entry ∷ is.behind) = is.whole ∙ append_assoc left (entry ∷ []) is.behind in
     let key : List ℕ = string_bytes entry.0 in
     let set : Data = over (view entry.1) (get_member key now) in
@@ -59,8 +59,8 @@ put_one all left entry lower now new hides one read result rise is reads named s
       gives = put (string_bytes entry.0) (rules_of_profile (string_bytes entry.0) (view entry.1)) (profiles_in_file (members_view is.behind)) reads is.gives;
       puts = put_first left entry is.behind lower now new rises is.puts sets;
       knows =
-          subst (λ (them : Members). IfOk result (λ it. AreKnown (members_view (entry ∷ is.behind)) it.known.items × AreKnown them it.known.items)) (sym sets)
-          (known_more key (view entry.1) set (members_view is.behind) now (behind_keys left entry is.behind rises) hides one read result hidden named says more is.knows);
+          subst (λ (them : Members). IfOk result (λ it. AreKnown (members_view (entry ∷ is.behind)) (unboxed it.known.items) × AreKnown them (unboxed it.known.items))) (sym sets)
+          (known_more key (view entry.1) set (members_view is.behind) now (behind_keys left entry is.behind rises) is_known one read result hidden named says more is.knows);
     }
 
 -- ---- two values that are refused in one profile

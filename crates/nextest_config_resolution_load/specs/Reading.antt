@@ -14,6 +14,7 @@ use Rattle.nextest_config_elements_toml.specs.declared.value_error.ValueError.Th
 use Rattle.nextest_config_elements_deserialize.specs.Paths.{profile_path}
 use Rattle.nextest_config_resolution_inheritance.specs.Inheritance.{Rise}
 use Rattle.nextest_config_resolution_load.specs.Checks.{Check, FileRules, must_hold, repeated_script, MergedConfig, bad_merged, config_in, file_of, file_with_setup, merged_in, no_toml, parents_of, rules_in, rules_of_source, source_checks, tree_of_files, value_checks}
+use Rattle.nextest_config_resolution_load.specs.Known.{unboxed}
 use Rattle.nextest_config_resolution_load.specs.Load.{AreReadRules, AreReadScriptRules, IsFilterBy, IsReadAs, IsSpecBy, LoadedOverride, LoadedScriptRule, named_of, reason_of, merged_of}
 use Rattle.nextest_config_resolution_load.specs.Rules.{rules_at, script_placed_in, script_rules_at}
 use Rattle.nextest_config_resolution_load.specs.Rules as words
@@ -115,17 +116,17 @@ abbrev pub IsPutBefore : Result ReadProfile ValueError → Result ReadProfiles V
 IsPutBefore one others result = (name : List ℕ) (first : Reading ProfileRules) (rest : Reading (List ProfileRules))
     → GivesSeenAt (λ it. it.rules) (profile_path name) one first → GivesBackward others rest → GivesBackward result (first_and name first rest)
 
--- what a call read of a profile is known of it, where that is all that a tree will have at its name
+-- what a call read of a profile is known, if it is to be
 abbrev pub known_if : Bool → Result ReadProfile ValueError → List NamedProfile
 known_if true (Ok it) = record { name = it.rules.profile; config = it.config } ∷ []
 known_if true (Err told) = []
 known_if false one = []
 
--- what is known by then
+-- with others
 abbrev pub KnowsMore : Bool → Result ReadProfile ValueError → Result ReadProfiles ValueError → Result ReadProfiles ValueError → Type 0
-KnowsMore hides one (Ok others) (Ok it) = it.known.items ≡ others.known.items ++ known_if hides one
-KnowsMore hides one (Err told) (Ok it) = ⊥
-KnowsMore hides one others (Err told) = ⊤
+KnowsMore is_known one (Ok others) (Ok it) = unboxed it.known.items ≡ unboxed others.known.items ++ known_if is_known one
+KnowsMore is_known one (Err told) (Ok it) = ⊥
+KnowsMore is_known one others (Err told) = ⊤
 
 -- a call parses the text of a file, or it is no TOML; want of memory says nothing
 abbrev pub ParsesText : {T : Type 0} → (T → Members) → List ℕ → Option Members → Result T LoadError → Type 0

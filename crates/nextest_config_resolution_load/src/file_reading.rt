@@ -6,7 +6,7 @@ ghost use Rattle.toml.specs.Data.{Data, table};
 ghost use Rattle.toml.specs.View.{members_view, table_view, view};
 ghost use Rattle.nextest_config_elements_toml.specs.Paths.{Gives, GivesAt};
 ghost use Rattle.nextest_config_elements_toml.specs.Reading.{Path, under};
-ghost use Rattle.nextest_config_resolution_load.specs.Known.{AreKnown};
+ghost use Rattle.nextest_config_resolution_load.specs.Known.{AreKnown, unboxed};
 ghost use Rattle.nextest_config_resolution_load.specs.Reading.{GivesSeenAt, IsPutBefore, KnowsMore, refused_values, third};
 ghost use Rattle.nextest_config_elements_deserialize.specs.Keys.{table_by};
 ghost use Rattle.nextest_config_elements_deserialize.specs.Paths.{profile_path};
@@ -142,7 +142,11 @@ fn put_file(
     let lower = mem::replace(tree, Tree::new(alloc, Table::new(alloc)));
     let (table, known) = lower.into_parts();
     let table = file_over(alloc, rest, table)?;
-    *tree = Tree { table, known };
+    *tree = Tree {
+        table,
+        known,
+        awaits_highest: false,
+    };
     Ok(profiles)
 }
 
@@ -175,30 +179,36 @@ fn put_table(
     ensures tree { OnOk result (members_view tree.new ≡ with_given (codes "profile")
         (Some (table (table_view profiles))) (members_view tree.old)) }
 {
+    let keeps_known = tree.awaits_highest;
     let lower = mem::replace(tree, Tree::new(alloc, Table::new(alloc)));
     let (mut table, _) = lower.into_parts();
     let below = take_out(&mut table, "profile");
     let mut merged = table_at(alloc, below);
-    let (rules, known) = put_each(alloc, profiles, &mut merged)?;
+    let (rules, known) = put_each(alloc, profiles, &mut merged, keeps_known)?;
     let key = String::from_str(alloc, "profile")?;
     put_over(alloc, &mut table, key, Value::Table(merged))?;
-    *tree = Tree { table, known };
+    *tree = Tree {
+        table,
+        known,
+        awaits_highest: false,
+    };
     Ok(rules)
 }
 
 // Each profile of a table, which is put over lower ones, the last one first: of a long text that
-// was just read as TOML, the end is what a cache still has. Those that hide all that is lower need
-// not be read any more.
+// was just read as TOML, the end is what a cache still has. If asked for, what was read of those
+// that hide all lower ones is kept, since they are the tree's own.
 fn put_each(
     alloc: Global,
     profiles: Table,
     lower: &mut Table,
-) -> Result<(Listing<ProfileRules>, Vec<NamedProfile>), ValueError>
+    keeps_known: bool,
+) -> Result<(Listing<ProfileRules>, Vec<Box<NamedProfile>>), ValueError>
     ensures read { GivesSeenAt (λ it. it.0) (codes "profile" ∷ []) result
         (profiles_in_file (table_view profiles)) }
     ensures merged { (below : Option Data) → members_at below ≡ table_view lower.old → OnOk result
         (table (table_view lower.new) ≡ over (table (table_view profiles)) below) }
-    ensures known { IfOk result (λ it. AreKnown (table_view lower.new) it.1.items) }
+    ensures known { IfOk result (λ it. AreKnown (table_view lower.new) (unboxed it.1.items)) }
 {
     let mut read = Ok(ReadProfiles {
         rules: Vec::new(alloc),
@@ -207,7 +217,7 @@ fn put_each(
     for (name, given) in profiles.into_iter().rev() {
         let one = read_profile(alloc, name.as_str(), &given);
         let hides_all = put_over(alloc, lower, name, given)?;
-        read = before(alloc, one, hides_all, read);
+        read = before(alloc, one, hides_all & keeps_known, read);
     }
     let ReadProfiles { rules, known } = read?;
     let mut rules = rules;
@@ -220,25 +230,27 @@ fn put_each(
 pub(crate) struct ReadProfiles {
     // their rules, the last profile first
     pub(crate) rules: Vec<ProfileRules>,
-    // those that need not be read any more, the last first
-    pub(crate) known: Vec<NamedProfile>,
+    // what else was read of those that are the tree's own, the last first
+    pub(crate) known: Vec<Box<NamedProfile>>,
 }
 
-// What was read of a profile before what was read of those behind it, which stand in reverse.
+// What was read of a profile before what was read of those behind it, which stand in reverse: its
+// rules, and if it is to be known, what it sets.
 fn before(
     alloc: Global,
     one: Result<ReadProfile, ValueError>,
-    hides_all: bool,
+    is_known: bool,
     read: Result<ReadProfiles, ValueError>,
 ) -> Result<ReadProfiles, ValueError>
     ensures read { IsPutBefore one read result }
-    ensures known { KnowsMore hides_all one read result }
+    ensures known { KnowsMore is_known one read result }
 {
     let ReadProfile { rules, config } = one?;
     let mut found = read?;
-    if hides_all {
-        let name = rules.profile.clone()?;
-        found.known.push(NamedProfile { name, config })?;
+    if is_known {
+        let name = Text::from_str(alloc, rules.profile.as_str())?;
+        let profile = Box::new(alloc, NamedProfile { name, config })?;
+        found.known.push(profile)?;
     }
     found.rules.push(rules)?;
     Ok(found)

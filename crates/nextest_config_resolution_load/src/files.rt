@@ -47,7 +47,9 @@ pub(crate) fn read_files<R: Languages>(
 {
     let mut tree = Tree::new(alloc, copied(built_in)?);
     let mut rules = Vec::new(alloc);
+    let last = sources.len().saturating_sub(1);
     for source in sources {
+        tree.await_highest(rules.len() == last);
         let read = read_source::<R>(alloc, cx, features, source, tree, kept)?;
         tree = read.tree;
         rules.push(read.rules)?;

@@ -8,7 +8,7 @@ ghost use Rattle.nextest_config_resolution_overrides.specs.Groups.{groups_at};
 ghost use Rattle.nextest_config_resolution_scripts.specs.Scripts.{scripts_at};
 ghost use Rattle.nextest_config_resolution_values.specs.File.{profiles_at, profiles_in, store_dir_at};
 ghost use Rattle.nextest_config_resolution_load.specs.Checks.{config_in, parents_of};
-ghost use Rattle.nextest_config_resolution_load.specs.Known.{AreKnown};
+ghost use Rattle.nextest_config_resolution_load.specs.Known.{AreKnown, Boxed, unboxed};
 ghost use Rattle.nextest_config_resolution_load.specs.Load.{named_of};
 ghost use Rattle.nextest_config_resolution_load.specs.Reading.{GivesSeen, profile_at, values_of};
 
@@ -83,11 +83,12 @@ fn read_profiles(alloc: Global, tree: Tree) -> Result<Listing<NamedProfile>, Val
 fn read_each(
     alloc: Global,
     profiles: Table,
-    known: Vec<NamedProfile>,
+    known: Vec<Box<NamedProfile>>,
 ) -> Result<Listing<NamedProfile>, ValueError>
-    ensures read { AreKnown (table_view profiles) known.items → GivesSeen (map named_of) result
+    ensures read { AreKnown (table_view profiles) (unboxed known.items)
+        → GivesSeen (map named_of) result
         (under (codes "profile") (profiles_in (table_view profiles))) }
-    ensures rises { AreKnown (table_view profiles) known.items
+    ensures rises { AreKnown (table_view profiles) (unboxed known.items)
         → IfOk result (λ it. Rise (parents_of (map named_of it))) }
 {
     let mut known = known;
@@ -104,26 +105,26 @@ fn next_profile(
     alloc: Global,
     name: &str,
     value: &Value,
-    known: &mut Vec<NamedProfile>,
+    known: &mut Vec<Box<NamedProfile>>,
 ) -> Result<NamedProfile, ValueError>
-    ensures profile { (profiles : Members) → AreKnown profiles known.old.items
+    ensures profile { (profiles : Members) → AreKnown profiles (unboxed known.old.items)
         → get_member name.now profiles ≡ Some (view value.now)
         → GivesSeen named_of result (profile_at name.now (view value.now)) }
-    ensures left { (profiles : Members)
-        → AreKnown profiles known.old.items → AreKnown profiles known.new.items }
+    ensures left { (profiles : Members) → AreKnown profiles (unboxed known.old.items)
+        → AreKnown profiles (unboxed known.new.items) }
 {
     if is_last(known.as_slice(), name) {
         if let Some(profile) = known.pop() {
-            return Ok(profile);
+            return Ok(Box::into_inner(profile));
         }
     }
     named_profile(alloc, name, value)
 }
 
 // Whether the last of some profiles has a name.
-fn is_last(profiles: &[NamedProfile], name: &str) -> bool
-    ensures { (front : List NamedProfile) (last : NamedProfile) → profiles.now ≡ front ++ last ∷ []
-        → IsTrue result → last.name ≡ name.now }
+fn is_last(profiles: &[Box<NamedProfile>], name: &str) -> bool
+    ensures { (front : List Boxed) (last : Boxed) → profiles.now ≡ front ++ last ∷ []
+        → IsTrue result → last.value.name ≡ name.now }
 {
     match profiles.last() {
         Some(last) => last.name.as_str() == name,

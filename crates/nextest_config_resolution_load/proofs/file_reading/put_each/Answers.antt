@@ -1,4 +1,4 @@
-use Rattle.std.proofs.Common.{◌≡◌, ℕ, List, ◌++◌, IfOk, sym, ap, ◌∙◌, subst}
+use Rattle.std.proofs.Common.{◌≡◌, ◌&&◌, ℕ, Bool, true, false, refl, List, ◌++◌, IfOk, sym, ap, ◌∙◌, subst}
 use Rattle.std.specs.Iterator.Adapters.{rev_source}
 use Rattle.toml.specs.View.{members_view, table_view, view}
 use Rattle.nextest_config_elements_deserialize.specs.Paths.{profile_path}
@@ -8,6 +8,10 @@ use Rattle.nextest_config_resolution_load.specs.Reading.{GivesSeenAt}
 use Rattle.nextest_config_resolution_load.proofs.FilesRead.{Entry, PutBackward, put_one}
 use Rattle.nextest_config_resolution_load.proofs.Taken.{over_at}
 use Rattle.nextest_config_resolution_load.proofs.file_reading.put_each.Goals as goal
+
+first_of : (one other : Bool) → one && other ≡ true → one ≡ true
+first_of true other both = refl
+first_of false other both = both
 
 pub loop-name-preserved : goal.loop-name-preserved
 loop-name-preserved c =
@@ -19,9 +23,9 @@ loop-name-preserved c =
     let here = subst (λ (it : List Entry). PutBackward all it lower now c.loop-name.read) c.in-Some.ensures.steps c.loop-name.invariant in
     let reads = subst (λ (it : List ℕ). GivesSeenAt (λ profile. profile.rules) (profile_path it) one (rules_of_profile it (view c.in-Some.given))) c.as_str.ensures.value c.read_profile-one.ensures.rules in
     let named = subst (λ (it : List ℕ). IfOk one (λ profile. profile.rules.profile ≡ it)) c.as_str.ensures.value c.read_profile-one.ensures.name in
-    put_one all (rev_source c.next.new.self) entry lower now (table_view c.put_over.new.table) c.in_ok-hides_all.hides_all one c.loop-name.read c.before-read.result
+    put_one all (rev_source c.next.new.self) entry lower now (table_view c.put_over.new.table) (c.in_ok-hides_all.hides_all && c.args.keeps_known) one c.loop-name.read c.before-read.result
     c.into_iter.ensures.into_iter_gives.5 here reads named c.read_profile-one.ensures.config c.before-read.ensures.read c.before-read.ensures.known
-    c.in_ok-hides_all.ensures.table c.in_ok-hides_all.ensures.hides
+    c.in_ok-hides_all.ensures.table (λ both. c.in_ok-hides_all.ensures.hides (first_of c.in_ok-hides_all.hides_all c.args.keeps_known both))
 
 pub returns-clause-merged : goal.returns-clause-merged
 returns-clause-merged c below same =

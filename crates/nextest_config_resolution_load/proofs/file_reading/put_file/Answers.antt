@@ -3,7 +3,7 @@ use Rattle.toml.specs.Data.{Members}
 use Rattle.toml.specs.View.{members_view, table_view, view}
 use Rattle.nextest_config_resolution_merge.specs.Tree.{merge}
 use Rattle.nextest_config_resolution_load.specs.Checks.{file_with_setup}
-use Rattle.nextest_config_resolution_load.specs.Known.{AreKnown}
+use Rattle.nextest_config_resolution_load.specs.Known.{AreKnown, unboxed}
 use Rattle.nextest_config_resolution_load.proofs.Taken.{put_whole, same_profiles}
 use Rattle.nextest_config_resolution_load.proofs.file_reading.put_file.Goals as goal
 
@@ -17,7 +17,7 @@ returns-clause-tree c =
 pub invariant_of-drop : goal.invariant_of-drop
 invariant_of-drop c =
     let parts = c.into_parts-table in
-    subst (λ (profiles : Members). AreKnown profiles parts.result.1.items)
+    subst (λ (profiles : Members). AreKnown profiles (unboxed parts.result.1.items))
     (sym (same_profiles (option_map view c.take_out-given.result) (table_view c.args.file) (table_view c.take_out-given.new.table) (table_view parts.result.0) (table_view c.in_ok-table.table)
     c.take_out-given.ensures.left c.in_ok-table.ensures))
     parts.ensures.known

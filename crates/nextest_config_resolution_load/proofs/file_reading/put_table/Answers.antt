@@ -4,7 +4,7 @@ use Rattle.toml.specs.View.{members_view, table_view, view}
 use Rattle.toml.specs.declared.value.Value.{Table}
 use Rattle.toml.proofs.Views.{view-Table}
 use Rattle.nextest_config_resolution_merge.specs.Tree.{over, with_member}
-use Rattle.nextest_config_resolution_load.specs.Known.{AreKnown}
+use Rattle.nextest_config_resolution_load.specs.Known.{AreKnown, unboxed}
 use Rattle.nextest_config_resolution_load.specs.Merging.{with_given}
 use Rattle.nextest_config_resolution_load.proofs.Taken.{put_back, put_profiles}
 use Rattle.nextest_config_resolution_load.proofs.file_reading.put_table.Goals as goal
@@ -29,11 +29,11 @@ returns-clause-tree c =
     c.in_ok-put_over.ensures.table)
     ∙ ap (with_given (codes "profile") (Some given)) (c.into_parts-table.ensures.table ∙ ap members_view c.replace-lower.ensures.value)
 
-pub invariant_of-drop : goal.invariant_of-drop
-invariant_of-drop c =
+pub invariant_of-tree : goal.invariant_of-tree
+invariant_of-tree c =
     let rest = table_view c.take_out-below.new.table in
     let merged = c.put_each.new.lower in
-    let known = c.in_ok-rules.known.items in
+    let known = unboxed c.in_ok-rules.known.items in
     subst (λ (profiles : Members). AreKnown profiles known)
     (sym (put_profiles (option_map view c.take_out-below.result) (table_view c.into_parts-table.result.0) rest (table_view c.put_over.new.table) (table_view merged) c.take_out-below.ensures.left
     (sets (string_bytes c.in_ok-key.key) (view (Table merged)) (table (table_view merged)) rest (table_view c.put_over.new.table) c.in_ok-key.ensures.ok (view-Table merged)

@@ -5,7 +5,7 @@ use Rattle.toml.specs.View.{table_view, view}
 use Rattle.toml.specs.declared.value.Value.{Value}
 use Rattle.toml.proofs.Views.{view-Table}
 use Rattle.nextest_config_elements_toml.specs.Reading.{under}
-use Rattle.nextest_config_resolution_load.specs.Known.{AreKnown}
+use Rattle.nextest_config_resolution_load.specs.Known.{AreKnown, unboxed}
 use Rattle.nextest_config_resolution_load.specs.Load.{named_of}
 use Rattle.nextest_config_resolution_load.specs.Merging.{members_at}
 use Rattle.nextest_config_resolution_load.specs.Reading.{GivesSeen}
@@ -25,7 +25,7 @@ returns-in-Some-Table-clause-read c =
     sym c.take_out.ensures.value ∙ ap (option_map view) is.is ∙ ap (λ (it : Value). Some (view it)) is.field-0-is ∙ ap Some (view-Table is.profiles) in
     subst (λ (it : Option Data). GivesSeen (map named_of) c.read_each.result (under (codes "profile") (profiles_of it)))
     (ap (λ (it : BTreeMap (String Global) Value). Some (table (table_view it))) is.profiles-is ∙ sym found ∙ ap (get_member (codes "profile")) parts.ensures.table)
-    (c.read_each.ensures.read (subst (λ (them : Members). AreKnown them parts.result.1.items) (ap members_at found ∙ ap table_view (sym is.profiles-is)) parts.ensures.known))
+    (c.read_each.ensures.read (subst (λ (them : Members). AreKnown them (unboxed parts.result.1.items)) (ap members_at found ∙ ap table_view (sym is.profiles-is)) parts.ensures.known))
 
 pub returns-in-Some-Table-clause-rises : goal.returns-in-Some-Table-clause-rises
 returns-in-Some-Table-clause-rises c =
@@ -33,4 +33,4 @@ returns-in-Some-Table-clause-rises c =
     let is = c.in-Some-Table in
     let found : get_member (codes "profile") (table_view parts.result.0) ≡ Some (table (table_view is.profiles)) =
     sym c.take_out.ensures.value ∙ ap (option_map view) is.is ∙ ap (λ (it : Value). Some (view it)) is.field-0-is ∙ ap Some (view-Table is.profiles) in
-    c.read_each.ensures.rises (subst (λ (them : Members). AreKnown them parts.result.1.items) (ap members_at found ∙ ap table_view (sym is.profiles-is)) parts.ensures.known)
+    c.read_each.ensures.rises (subst (λ (them : Members). AreKnown them (unboxed parts.result.1.items)) (ap members_at found ∙ ap table_view (sym is.profiles-is)) parts.ensures.known)
