@@ -62,8 +62,22 @@ fn have_one_priority(tests: &[PlanTest]) -> bool {
 fn sort_by_keys(tests: &mut Vec<PlanTest>)
     ensures { IsPermutation tests.old.items tests.new.items }
 {
-    let skip = shared_by_all(tests.as_slice());
-    let _ = tests.sort_by_cached_key(|test: &PlanTest| key_of(test, skip));
+    let (id, name) = shared_by_all(tests.as_slice());
+    if have_one_priority(tests.as_slice()) && have_one_id(tests.as_slice()) {
+        let _ = tests.sort_by_cached_key(|test: &PlanTest| name_key(test, name));
+    } else {
+        let _ = tests.sort_by_cached_key(|test: &PlanTest| key_of(test, id, name));
+    }
+}
+
+// Whether tests are all of the binary of the first.
+fn have_one_id(tests: &[PlanTest]) -> bool {
+    let Some(first) = tests.first() else {
+        return true;
+    };
+    tests
+        .iter()
+        .all(|test| test.instance.binary_id == first.instance.binary_id)
 }
 
 // How many bytes the binary ids of tests begin with in common, and how many their names.
@@ -96,13 +110,19 @@ fn shared(one: &str, other: &str) -> usize {
 }
 
 // What a test is sorted by first: its priority, and of its binary id and name as many bytes as a
-// number has, behind those that all tests begin with.
-fn key_of(test: &PlanTest, skip: (usize, usize)) -> (TestPriority, u128, u128) {
+// number has, behind so many that all tests begin with.
+fn key_of(test: &PlanTest, id: usize, name: usize) -> (TestPriority, u128, u128) {
     (
         test.settings.priority,
-        number_at(test.instance.binary_id.as_str(), skip.0),
-        number_at(test.instance.test_name.as_str(), skip.1),
+        number_at(test.instance.binary_id.as_str(), id),
+        name_key(test, name),
     )
+}
+
+// The same where all tests are of one priority and one binary, which takes half of the memory: as
+// many bytes of its name as a number has, behind so many that all begin with.
+fn name_key(test: &PlanTest, skip: usize) -> u128 {
+    number_at(test.instance.test_name.as_str(), skip)
 }
 
 // Sixteen bytes of a text as a number, the first one the highest; behind its end there are zeros.
