@@ -79,37 +79,50 @@ impl Expected {
         }
     }
 
-    // Leaves out the places of tests with longer or shorter names.
+    // Leaves out the places of tests whose names, or binaries' ids, are longer or shorter.
     fn read_tests(&mut self, expected: &[NextTest<'_>], tests: &[PlanTest]) {
         for (place, test) in self.places.iter_mut().zip(expected) {
             *place = place.filter(|at| match tests.get(*at) {
-                Some(planned) => planned.instance.test_name.len() == test.test_name.len(),
-                None => false,
-            });
-        }
-    }
-
-    // Leaves out the places of tests whose names end otherwise.
-    fn read_names(&mut self, expected: &[NextTest<'_>], tests: &[PlanTest]) {
-        for (place, test) in self.places.iter_mut().zip(expected) {
-            *place = place.filter(|at| match tests.get(*at) {
                 Some(planned) => {
-                    let name = planned.instance.test_name.as_str().as_bytes();
-                    name.last() == test.test_name.last()
+                    let instance = planned.instance.as_ref();
+                    instance.binary_id.len() == test.binary_id.len()
+                        && instance.test_name.len() == test.test_name.len()
                 }
                 None => false,
             });
         }
     }
 
-    // Leaves out the places of tests that can't start.
-    fn read_states<A: KeepAttempts>(&mut self, progress: &Progress<A>) {
-        for place in self.places.iter_mut().take(self.count) {
-            *place = place.filter(|at| {
-                matches!(progress.mark(*at), Some(Mark::Waiting | Mark::Between))
+    // Leaves out the places of tests whose names begin or end otherwise.
+    fn read_names(&mut self, expected: &[NextTest<'_>], tests: &[PlanTest]) {
+        for (place, test) in self.places.iter_mut().zip(expected) {
+            *place = place.filter(|at| match tests.get(*at) {
+                Some(planned) => {
+                    let name = planned.instance.test_name.as_str().as_bytes();
+                    name.last() == test.test_name.last() && name.first() == test.test_name.first()
+                }
+                None => false,
             });
         }
     }
+
+    // Leaves out the places of tests of which no attempt can start.
+    fn read_states<A: KeepAttempts>(&mut self, progress: &Progress<A>) {
+        for place in self.places.iter_mut().take(self.count) {
+            *place = place.filter(|at| has_attempt_left(progress, *at));
+        }
+    }
+}
+
+// Whether the test at a place doesn't run and has fewer ended attempts than it may have.
+fn has_attempt_left<A: KeepAttempts>(progress: &Progress<A>, place: usize) -> bool {
+    let (Some(mark), Some(plan)) = (progress.mark(place), progress.planned(place)) else {
+        return false;
+    };
+    let Some(attempts) = progress.attempts(place) else {
+        return false;
+    };
+    matches!(mark, Mark::Waiting | Mark::Between) && attempts.len() < plan.tries as usize
 }
 
 // The hashes of the names of the first of these tests.

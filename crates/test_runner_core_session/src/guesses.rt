@@ -16,40 +16,45 @@ const NEAR: usize = 8;
 // In how many of them it is looked for where it is only likely to start.
 const LIKELY: usize = 4;
 
-// The place of no test.
+// Of how many tests the hashes are made before their slots are read, so that the processor waits for
+// several slots at once.
+const TOGETHER: usize = 32;
+
+// A slot without a place. No place is as large as this in any table, since there are fewer tests.
 const FREE: u32 = u32::MAX;
 
-// The place of a test, and a part of the hash of its name.
-#[derive(Clone, Copy)]
-struct Slot {
-    part: u32,
-    place: u32,
-}
-
-// The places of tests in the slots of a table, twice as many as tests, by a hash of their names.
-// Where a hash is shared by more names than have slots, those left over have none.
+// The places of tests in the slots of a table, twice as many as tests, by a hash of their names: the
+// last bits of a slot are a place, as many as the places of these tests need, and the first ones a
+// part of the hash. Where a hash is shared by more names than have slots, those left over have none.
 #[derive(Drop)]
 pub(crate) struct Guesses {
-    slots: Vec<Slot>,
+    slots: Vec<u32>,
     width: usize,
+    // The bits of a place.
+    places: u32,
 }
 
 impl Guesses {
     // The table of these tests.
     pub(crate) fn new(alloc: Global, tests: &[PlanTest]) -> Result<Guesses, AllocError> {
         let width = tests.len().saturating_mul(2).saturating_add(1);
-        let free = Slot {
-            part: 0,
-            place: FREE,
-        };
         let mut guesses = Guesses {
-            slots: Vec::from_elem(alloc, free, width.saturating_add(NEAR))?,
+            slots: Vec::from_elem(alloc, FREE, width.saturating_add(NEAR))?,
             width,
+            places: bits_of(tests.len()),
         };
-        for (place, test) in tests.iter().enumerate() {
-            guesses.add(hash_of_test(test.instance.as_ref()), place);
+        for (turn, together) in tests.chunks(TOGETHER).enumerate() {
+            guesses.add_all(together, turn.saturating_mul(TOGETHER));
         }
         Ok(guesses)
+    }
+
+    // Puts the places of these tests into the table, of which this is the first.
+    fn add_all(&mut self, tests: &[PlanTest], first: usize) {
+        let hashes = hashes_of(tests);
+        for (at, hash) in hashes.iter().take(tests.len()).enumerate() {
+            self.add(*hash, first.saturating_add(at));
+        }
     }
 
     // Puts a place into the first free slot for a hash, if there is one.
@@ -57,14 +62,12 @@ impl Guesses {
         let Ok(place) = u32::try_from(place) else {
             return;
         };
+        let taken = self.part_of(hash) | place;
         let first = self.first_slot(hash);
         for at in first..first.saturating_add(NEAR) {
             if let Some(slot) = self.slots.get_mut(at) {
-                if slot.place == FREE {
-                    *slot = Slot {
-                        part: part_of(hash),
-                        place,
-                    };
+                if *slot == FREE {
+                    *slot = taken;
                     return;
                 }
             }
@@ -83,11 +86,12 @@ impl Guesses {
             let Some(slot) = self.slots.get(at) else {
                 return None;
             };
-            if slot.place == FREE {
+            if *slot == FREE {
                 return None;
             }
-            if slot.part == part_of(hash) && is_at(tests, slot.place as usize, test) {
-                return Some(slot.place as usize);
+            let place = self.place_in(*slot);
+            if self.is_of(*slot, hash) && is_at(tests, place, test) {
+                return Some(place);
             }
         }
         None
@@ -104,24 +108,54 @@ impl Guesses {
             .get(first..first.saturating_add(LIKELY))?;
         let mut likely = FREE;
         for slot in slots {
-            let Slot { part, place } = *slot;
-            likely = if part == part_of(hash) { place } else { likely };
+            likely = if self.is_of(*slot, hash) {
+                *slot
+            } else {
+                likely
+            };
         }
         if likely == FREE {
             return None;
         }
-        Some(likely as usize)
+        Some(self.place_in(likely))
     }
 
     // The first slot for a hash, as far among all as the hash is among numbers.
     fn first_slot(&self, hash: u64) -> usize {
         (u128::from(hash).wrapping_mul(self.width as u128) >> 64) as usize
     }
+
+    // The part of a hash that a slot keeps: of its end, since the slot tells of the rest.
+    fn part_of(&self, hash: u64) -> u32 {
+        (hash & 0xffff_ffff) as u32 & !self.places
+    }
+
+    // Whether a slot has this part of a hash.
+    fn is_of(&self, slot: u32, hash: u64) -> bool {
+        slot & !self.places == self.part_of(hash)
+    }
+
+    // The place that a slot has.
+    fn place_in(&self, slot: u32) -> usize {
+        (slot & self.places) as usize
+    }
 }
 
-// The part of a hash that a slot keeps: the end, since the slot tells of the rest.
-fn part_of(hash: u64) -> u32 {
-    (hash & 0xffff_ffff) as u32
+// The bits that a number up to this has, or all where it has more.
+fn bits_of(number: usize) -> u32 {
+    match u32::try_from(number) {
+        Ok(number) => u32::MAX.checked_shr(number.leading_zeros()).unwrap_or(0),
+        Err(_) => u32::MAX,
+    }
+}
+
+// The hashes of the names of the first of these tests.
+fn hashes_of(tests: &[PlanTest]) -> [u64; TOGETHER] {
+    let mut hashes = [0; TOGETHER];
+    for (hash, test) in hashes.iter_mut().zip(tests) {
+        *hash = hash_of_test(test.instance.as_ref());
+    }
+    hashes
 }
 
 // A hash of a test's name.
