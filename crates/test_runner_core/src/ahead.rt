@@ -12,9 +12,6 @@ const MOST_LINES: usize = 64;
 // How long they are, at most: where lines are long, look-ups take little of the time.
 const LONGEST: usize = 256;
 
-// What the line of a start begins with.
-const START: &[u8] = b"start\t";
-
 // No test.
 const NO_TEST: NextTest<'static> = NextTest {
     binary_id: &[],
@@ -26,7 +23,7 @@ const NO_TEST: NextTest<'static> = NextTest {
 pub(crate) fn look_ahead(session: &mut RecordSession<'_>, lines: &LogLines)
     ensures { session.new ≡ session.old }
 {
-    if session.wants_tests() && lines.line().starts_with(START) {
+    if session.wants_tests() && behind_start(lines.line()).is_some() {
         tell_tests(session, lines.waiting());
     }
 }
@@ -71,10 +68,18 @@ fn first_line(lines: &[u8]) -> Option<(&[u8], &[u8])> {
 
 // The test that a line starts, if it seems to start one.
 fn started_by(line: &[u8]) -> Option<NextTest<'_>> {
-    let fields = line.strip_prefix(START)?;
+    let fields = behind_start(line)?;
     let tab = memchr(b'\t', fields)?;
     Some(NextTest {
         binary_id: &fields[..tab],
         test_name: &fields[tab + 1..],
     })
+}
+
+// What stands behind the first field of a line, if that says that a test starts.
+fn behind_start(line: &[u8]) -> Option<&[u8]> {
+    match line {
+        [b's', b't', b'a', b'r', b't', b'\t', fields @ ..] => Some(fields),
+        _ => None,
+    }
 }

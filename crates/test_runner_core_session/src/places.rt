@@ -13,6 +13,10 @@ use std::cmp::Ordering;
 use std::marker::Model;
 use test_runner_core_plan::PlanTest;
 
+// Of how many tests the names are read before they are compared, so that the processor waits for
+// several of them at once.
+const TOGETHER: usize = 32;
+
 // The places of tests by their names. In a clause it is the tests' names by their places.
 #[derive(Drop)]
 pub(crate) struct Places<'a> {
@@ -185,11 +189,33 @@ fn rise(tests: &[PlanTest]) -> bool
     ensures { IsTrue result → IsStrictlySortedBy instance_cmp (names tests.now) }
 {
     for place in 1..tests.len() {
+        if place % TOGETHER == 1 && first_bytes_fall(&tests[place - 1..]) {
+            return false;
+        }
         if tests[place].instance <= tests[place - 1].instance {
             return false;
         }
     }
     true
+}
+
+// Whether one of the first of these tests has a name that begins with a lesser byte than that of the
+// test before it, of the same binary. This reads the names of many tests at once, which then are at
+// hand as they are compared.
+fn first_bytes_fall(tests: &[PlanTest]) -> bool {
+    for (before, test) in tests.iter().zip(tests.iter().skip(1)).take(TOGETHER) {
+        if first_byte(test) < first_byte(before)
+            && test.instance.binary_id == before.instance.binary_id
+        {
+            return true;
+        }
+    }
+    false
+}
+
+// The first byte of a test's name.
+fn first_byte(test: &PlanTest) -> Option<u8> {
+    test.instance.test_name.as_str().as_bytes().first().copied()
 }
 
 // The place of the test of this name among tests that rise, or one past the end.
