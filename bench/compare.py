@@ -6,7 +6,7 @@
 Build the program first by `make run`. The plain one is bench/plain/plain.rs, built here by `rustc -O` alone. Each load is a file that
 both read from standard input; they run in turns, N times each (5 where nothing is said), and of each the least time and the least peak
 memory count: processor seconds, and MB as the system tells them. Their reports have to be the same, byte for byte. A second table has
-what names in no order cost either program more than names in order.
+what names in no order cost either program more than names in order; the loads that it compares are run in turns too.
 
 Of the plain program there are two for loads with rules: one whose matchers are all written by hand for these rules, and one in which the
 crate `regex` matches the regular expressions, built by Cargo from Debian's packages (`apt-get install librust-regex+default-dev`).
@@ -162,31 +162,50 @@ class Took:
     seconds: float = float("inf")
     memory: float = float("inf")
 
-    def run(self, room, program, report):
-        told = subprocess.run([room / "measure", program, room / "load", report], capture_output=True, text=True, check=True)
+    def run(self, room, program, load, report):
+        command = [room / "measure", program, room / load, room / report]
+        told = subprocess.run(command, capture_output=True, text=True, check=True)
         microseconds, kibibytes = map(int, told.stdout.split())
         self.seconds = min(self.seconds, microseconds / 1e6)
         self.memory = min(self.memory, kibibytes / 1024)
 
 
-def compare(room, program, name, runs):
-    plain = build_with_regex(room) if name in WITH_REGEX else room / "plain"
-    shown, make = LOADS[name]
-    inputs, log = make()
-    (room / "load").write_text(f"{inputs}\n{log}")
-    ours, other = Took(), Took()
+def compare(room, program, names, runs):
+    """Runs both programs on these loads in turns, so that whatever else the machine does meets all of them alike; prints a row of each."""
+    for name in names:
+        inputs, log = LOADS[name][1]()
+        (room / name).write_text(f"{inputs}\n{log}")
+    programs = {name: (program, build_with_regex(room) if name in WITH_REGEX else room / "plain") for name in names}
+    took = {name: (Took(), Took()) for name in names}
     for _ in range(runs):
-        ours.run(room, program, room / "of-ours")
-        other.run(room, plain, room / "of-plain")
-    if not filecmp.cmp(room / "of-ours", room / "of-plain", shallow=False):
-        raise SystemExit(f"{name}: the reports of the two programs differ")
-    size = (room / "load").stat().st_size / 1e6
+        for name in names:
+            for told, path, report in zip(took[name], programs[name], ("of-ours", "of-plain")):
+                told.run(room, path, name, report)
+            if not filecmp.cmp(room / "of-ours", room / "of-plain", shallow=False):
+                raise SystemExit(f"{name}: the reports of the two programs differ")
+    for name in names:
+        print_row(name, (room / name).stat().st_size / 1e6, *took[name])
+        (room / name).unlink()
+    return {name: (ours.seconds, plain.seconds) for name, (ours, plain) in took.items()}
+
+
+def print_row(name, size, ours, plain):
     print(
-        f"| {shown} ({size:.0f} MB) | {ours.seconds:.2f} s, {ours.memory:.0f} MB | {other.seconds:.2f} s, {other.memory:.0f} MB"
-        f" | {ours.seconds / other.seconds:.2f} | {ours.memory / other.memory:.2f} |",
+        f"| {LOADS[name][0]} ({size:.0f} MB) | {ours.seconds:.2f} s, {ours.memory:.0f} MB | {plain.seconds:.2f} s, {plain.memory:.0f} MB"
+        f" | {ours.seconds / plain.seconds:.2f} | {ours.memory / plain.memory:.2f} |",
         flush=True,
     )
-    return ours.seconds, other.seconds
+
+
+def compare_all(room, program, names, runs):
+    """Those loads that are compared with one another are run in turns, each of the others after another."""
+    paired = {name for pair in GAPS for name in pair}
+    together = [name for name in names if name in paired]
+    took = compare(room, program, together, runs)
+    for name in names:
+        if name not in paired:
+            took |= compare(room, program, [name], runs)
+    return took
 
 
 def print_gaps(took):
@@ -213,7 +232,7 @@ def main():
         for name in ("plain", "measure"):
             subprocess.run(["rustc", "-O", "-o", room / name, ROOT / f"bench/plain/{name}.rs"], check=True)
         print("| Load | Ours | Plain | Time | Memory |\n|---|---|---|---|---|")
-        print_gaps({name: compare(room, words.program.resolve(), name, words.runs) for name in words.loads or LOADS})
+        print_gaps(compare_all(room, words.program.resolve(), words.loads or LOADS, words.runs))
 
 
 if __name__ == "__main__":

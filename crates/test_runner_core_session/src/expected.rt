@@ -55,8 +55,9 @@ impl Expected {
     // Guesses where these tests stand. As a test starts, four pieces of memory are read that wait for
     // one another: a slot, which tells its place, the test there, its name and its state. Here each
     // of them is read of all these tests before the next one is, so that the processor waits for
-    // several at once, and has them at hand as the tests start. A guess is left out as soon as what
-    // was read shows that it is wrong.
+    // several at once, and has them at hand as the tests start. A piece may begin in one cache line
+    // and end in the next, so it is read at both ends. A guess is left out as soon as what was read
+    // shows that it is wrong.
     pub(crate) fn look_for<A: KeepAttempts>(
         &mut self,
         expected: &[NextTest<'_>],
