@@ -83,35 +83,51 @@ impl Expected {
     // Leaves out the places of tests whose names, or binaries' ids, are longer or shorter.
     fn read_tests(&mut self, expected: &[NextTest<'_>], tests: &[PlanTest]) {
         for (place, test) in self.places.iter_mut().zip(expected) {
-            *place = place.filter(|at| match tests.get(*at) {
-                Some(planned) => {
-                    let instance = planned.instance.as_ref();
-                    instance.binary_id.len() == test.binary_id.len()
-                        && instance.test_name.len() == test.test_name.len()
-                }
-                None => false,
-            });
+            if !place.is_some_and(|at| is_as_long(tests, at, test)) {
+                *place = None;
+            }
         }
     }
 
     // Leaves out the places of tests whose names begin or end otherwise.
     fn read_names(&mut self, expected: &[NextTest<'_>], tests: &[PlanTest]) {
         for (place, test) in self.places.iter_mut().zip(expected) {
-            *place = place.filter(|at| match tests.get(*at) {
-                Some(planned) => {
-                    let name = planned.instance.test_name.as_str().as_bytes();
-                    name.last() == test.test_name.last() && name.first() == test.test_name.first()
-                }
-                None => false,
-            });
+            if !place.is_some_and(|at| has_ends_of(tests, at, test)) {
+                *place = None;
+            }
         }
     }
 
     // Leaves out the places of tests of which no attempt can start.
     fn read_states<A: KeepAttempts>(&mut self, progress: &Progress<A>) {
         for place in self.places.iter_mut().take(self.count) {
-            *place = place.filter(|at| has_attempt_left(progress, *at));
+            if !place.is_some_and(|at| has_attempt_left(progress, at)) {
+                *place = None;
+            }
         }
+    }
+}
+
+// Whether the name of the test at a place, and its binary's id, have the lengths of these.
+fn is_as_long(tests: &[PlanTest], place: usize, test: &NextTest<'_>) -> bool {
+    match tests.get(place) {
+        Some(planned) => {
+            let instance = planned.instance.as_ref();
+            instance.binary_id.len() == test.binary_id.len()
+                && instance.test_name.len() == test.test_name.len()
+        }
+        None => false,
+    }
+}
+
+// Whether the name of the test at a place begins and ends as this one.
+fn has_ends_of(tests: &[PlanTest], place: usize, test: &NextTest<'_>) -> bool {
+    match tests.get(place) {
+        Some(planned) => {
+            let name = planned.instance.test_name.as_str().as_bytes();
+            name.last() == test.test_name.last() && name.first() == test.test_name.first()
+        }
+        None => false,
     }
 }
 

@@ -102,10 +102,7 @@ impl Guesses {
     // those of the next.
     pub(crate) fn likely(&self, hash: u64) -> Option<usize> {
         let first = self.first_slot(hash);
-        let slots = self
-            .slots
-            .as_slice()
-            .get(first..first.saturating_add(LIKELY))?;
+        let slots = self.slots.as_slice().get(first..)?.first_chunk::<LIKELY>()?;
         let mut likely = FREE;
         for slot in slots {
             likely = if self.is_of(*slot, hash) {
