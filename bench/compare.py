@@ -198,7 +198,7 @@ def print_row(name, size, ours, plain):
 
 
 def compare_all(room, program, names, runs):
-    """Those loads that are compared with one another are run in turns, each of the others after another."""
+    """Runs those loads in turns that are compared with one another, and each of the others by itself."""
     paired = {name for pair in GAPS for name in pair}
     together = [name for name in names if name in paired]
     took = compare(room, program, together, runs)
@@ -232,7 +232,7 @@ def main():
         for name in ("plain", "measure"):
             subprocess.run(["rustc", "-O", "-o", room / name, ROOT / f"bench/plain/{name}.rs"], check=True)
         print("| Load | Ours | Plain | Time | Memory |\n|---|---|---|---|---|")
-        print_gaps(compare_all(room, words.program.resolve(), words.loads or LOADS, words.runs))
+        print_gaps(compare_all(room, words.program.resolve(), list(dict.fromkeys(words.loads or LOADS)), words.runs))
 
 
 if __name__ == "__main__":
