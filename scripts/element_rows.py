@@ -228,7 +228,7 @@ def tool_config_answer(text):
 
 # ---- limits
 
-BAD_LIMIT = "expected `all`, or a number from 1, behind which `:wait` or `:immediate` may say how a run stops"
+BAD_LIMIT = "the text has none of the accepted forms"
 
 
 def limit_of(text):

@@ -8,9 +8,10 @@ ghost use Rattle.nextest_config_elements_choices.specs.declared.max_fail.Termina
 use std::fmt;
 use thiserror::Error;
 
-/// The text says neither how many failing tests stop a run nor how it stops.
+/// The text is none of those that its type reads: a `MaxFail`, a `TerminateMode` or the name of an
+/// experimental feature.
 #[derive(Clone, Copy, Debug, PartialEq, Eq, Error)]
-#[error("expected `all`, or a number from 1, behind which `:wait` or `:immediate` may say how a run stops")]
+#[error("the text has none of the accepted forms")]
 pub struct BadText;
 
 /// How a run ends that is stopped by failing tests.

@@ -34,8 +34,8 @@ pub record FiltersLaws {Filter Cx : Type 0} (IsParsed : Cx → FiltersetKind →
   -- what is read as a default filter, or as the filter of an override, asks for no groups
   pub default_has_no_groups : (cx : Cx) (known : KnownGroups) (text : List ℕ) (it : Filter) → IsParsed cx kind.DefaultFilter known text it → asks_groups it ≡ false
   pub override_has_no_groups : (cx : Cx) (known : KnownGroups) (text : List ℕ) (it : Filter) → IsParsed cx kind.OverrideFilter known text it → asks_groups it ≡ false
-  -- what is sure of a binary is so of its tests
-  pub sure_of_tests : (filter default : Filter) (test : Test) (sure value : Bool) → OnBinary filter default test.binary (Some sure) → OnTest filter default test value → value ≡ sure
+  -- what a filter that asks nothing of tests is on a binary, it is on the binary's tests
+  pub sure_of_tests : (filter default : Filter) (test : Test) (sure value : Bool) → has_runtime_leaves filter ≡ false → OnBinary filter default test.binary (Some sure) → OnTest filter default test value → value ≡ sure
   -- a filter that asks nothing of tests is sure of each binary
   pub sure_of_binaries : (filter default : Filter) (binary : Binary) (value : Option Bool) → has_runtime_leaves filter ≡ false → OnBinary filter default binary value → (sure : Bool) × (value ≡ Some sure)
   -- a filter has one value at most on a binary, and on a test

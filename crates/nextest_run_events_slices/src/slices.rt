@@ -10,7 +10,7 @@ use bstr::ByteSlice;
 use std::fmt;
 
 /// A part of an output.
-#[derive(Clone, Copy, Debug, PartialEq, Eq)]
+#[derive(Clone, Copy, Debug)]
 pub struct ByteSubslice<'a> {
     /// The bytes of the part.
     pub slice: &'a [u8],
@@ -19,7 +19,7 @@ pub struct ByteSubslice<'a> {
 }
 
 /// The part of a test's output that tells of its error.
-#[derive(Clone, Copy, Debug, PartialEq, Eq)]
+#[derive(Clone, Copy, Debug)]
 pub enum TestOutputErrorSlice<'a> {
     /// A panic message, to the end of standard error.
     PanicMessage {

@@ -6,7 +6,7 @@ use nextest_config_elements_choices::{FinalStatusLevel, StatusLevel, TestOutputD
 use nextest_run_events_results::{CancelReason, ExecutionResultDescription};
 
 /// Which statuses are shown, as they are set for a run.
-#[derive(Clone, Copy, Debug, PartialEq, Eq)]
+#[derive(PartialEq, Eq, Drop)]
 pub struct StatusLevels {
     /// Which are shown while tests run.
     pub status_level: StatusLevel,
@@ -15,7 +15,7 @@ pub struct StatusLevels {
 }
 
 /// What is shown of a finished test.
-#[derive(Clone, Copy, Debug, PartialEq, Eq)]
+#[derive(Debug, PartialEq, Eq, Drop)]
 pub struct OutputOnTestFinished {
     /// Whether its status line is written when it ends.
     pub write_status_line: bool,
@@ -26,7 +26,7 @@ pub struct OutputOnTestFinished {
 }
 
 /// What is kept of a finished test for the end of the run.
-#[derive(Clone, Copy, Debug, PartialEq, Eq)]
+#[derive(Debug, PartialEq, Eq, Drop)]
 pub enum OutputStoreFinal {
     /// Nothing.
     No,

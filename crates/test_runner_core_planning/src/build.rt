@@ -20,6 +20,7 @@ use crate::settled_tests::{SettledTests, settled_tests};
 use crate::wanted::{Settled, Wanted, settle, wanted_in};
 use nextest_filtering_filters::{CompiledExpr, EvalContext};
 use nextest_run_events_results::OwnedTestInstanceId;
+use nextest_run_events_visibility::StatusLevels;
 use nextest_text::{Listing, Text};
 use std::alloc::Global;
 use test_runner_core_inputs::Inputs;
@@ -177,7 +178,10 @@ fn plan_of(
         listed,
         skipped,
         limit: settings.max_fail,
-        levels: settings.levels,
+        levels: StatusLevels {
+            status_level: settings.levels.status_level,
+            final_status_level: settings.levels.final_status_level,
+        },
         warnings,
     }
 }

@@ -89,7 +89,7 @@ fn push_if_due(text: &mut String, shows: &Shows, test: &ReportedTest<'_>) -> Res
     ensures grows { Extends (string_bytes text.old) (string_bytes text.new) }
 {
     match test.due(shows) {
-        Some(due) => push_due(text, due, test),
+        Some(due) => push_due(text, &due, test),
         None => Ok(()),
     }
 }
@@ -121,11 +121,11 @@ fn kept_of(due: Option<OutputOnTestFinished>) -> OutputStoreFinal
 // Adds what is due of a test as it finishes.
 fn push_due(
     text: &mut String,
-    due: OutputOnTestFinished,
+    due: &OutputOnTestFinished,
     test: &ReportedTest<'_>,
 ) -> Result<(), AllocError>
     ensures ok { OnOk result
-        (Adds (IsDoneBy (Some due) test.now) (string_bytes text.old) (string_bytes text.new)) }
+        (Adds (IsDoneBy (Some due.now) test.now) (string_bytes text.old) (string_bytes text.new)) }
     ensures grows { Extends (string_bytes text.old) (string_bytes text.new) }
 {
     push_done_line(text, due, test)?;
@@ -135,11 +135,11 @@ fn push_due(
 // Adds the line of a test that finishes, if the line or its outputs are due.
 fn push_done_line(
     text: &mut String,
-    due: OutputOnTestFinished,
+    due: &OutputOnTestFinished,
     test: &ReportedTest<'_>,
 ) -> Result<(), AllocError>
     ensures ok { OnOk result (string_bytes text.new
-        ≡ string_bytes text.old ++ (if due.write_status_line || due.show_immediate
+        ≡ string_bytes text.old ++ (if due.now.write_status_line || due.now.show_immediate
         then test_line (codes "done") test.now else [])) }
     ensures grows { Extends (string_bytes text.old) (string_bytes text.new) }
 {

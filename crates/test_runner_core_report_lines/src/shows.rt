@@ -8,7 +8,7 @@ use nextest_run_events_results::CancelReason;
 use nextest_run_events_visibility::{OutputOnTestFinished, StatusLevels};
 
 /// What a profile sets of what is shown of tests.
-#[derive(Clone, Copy)]
+#[derive(Drop)]
 pub struct Shows {
     /// Which statuses are shown.
     pub levels: StatusLevels,

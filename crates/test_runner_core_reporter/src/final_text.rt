@@ -9,7 +9,7 @@ ghost use Rattle.test_runner_core_reporter.specs.Writes.{WritesParts, CountsWrit
 use crate::fault::ReportFault;
 use crate::reporting::{report_done, report_script, report_shown, report_words};
 use crate::run_end::RunEnd;
-use nextest_run_events_visibility::{OutputOnTestFinished, OutputStoreFinal};
+use nextest_run_events_visibility::{OutputOnTestFinished, OutputStoreFinal, StatusLevels};
 use std::alloc::Global;
 use test_runner_core_plan::{Plan, PlanTest};
 use test_runner_core_report_lines::{ReportedTest, Shows};
@@ -31,7 +31,10 @@ fn shows_of(plan: &Plan, test: &PlanTest) -> Shows
     ensures { result ≡ shows_of plan.now test.now }
 {
     Shows {
-        levels: plan.levels,
+        levels: StatusLevels {
+            status_level: plan.levels.status_level,
+            final_status_level: plan.levels.final_status_level,
+        },
         success_output: test.settings.success_output,
         failure_output: test.settings.failure_output,
     }

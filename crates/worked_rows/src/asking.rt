@@ -40,7 +40,7 @@ fn test_named(name: &str) -> TestQuery<'_> {
 }
 
 // Whether the filter of an override holds on a test, beside a default filter, both by their texts.
-// What is sure of the test's binary isn't asked of the test.
+// Where it asks nothing of tests, and so is sure of the test's binary, the test isn't asked.
 fn holds<F: Filters>(
     alloc: Global,
     filter_text: Text,
@@ -68,6 +68,9 @@ fn holds<F: Filters>(
         FiltersetKind::DefaultFilter,
         known_groups,
     )?;
+    if filter.has_runtime_leaves() {
+        return Ok(filter.matches_test(alloc, query, &default)?);
+    }
     match filter.matches_binary(alloc, &query.binary_query, &default)? {
         Some(sure) => Ok(sure),
         None => Ok(filter.matches_test(alloc, query, &default)?),

@@ -118,7 +118,7 @@ fn test_told(page: &mut Page, test: &PlanTest, has_settings: bool) {
 }
 
 fn settings_told(page: &mut Page, plan: &Plan) {
-    let levels = plan.levels;
+    let levels = &plan.levels;
     show!(page; "; limit ", Whole(plan.limit), "; levels ", Whole(levels.status_level));
     show!(page; " ", Whole(levels.final_status_level), "; warnings");
     page.show_each(" [", plan.warnings.as_slice(), "]");

@@ -17,4 +17,4 @@ returns-in-Some g c =
     let on_binary : g.F.Filters.on_binary filter default (binary_of c.args.query.now.binary_query) (Some sure) = search rules in
     let told = laws.some_on_test filter default test (cx, purpose.OverrideFilter, known, c.args.filter_text, read) (cx, purpose.DefaultFilter, known, c.args.default_text, default_read)
     (laws.default_serves cx known c.args.default_text default default_read) (laws.override_has_no_groups cx known c.args.filter_text filter read) in
-    (filter, default, read, default_read, subst (g.F.Filters.on_test filter default test) (laws.sure_of_tests filter default test sure told.0 on_binary told.1) told.1)
+    (filter, default, read, default_read, subst (g.F.Filters.on_test filter default test) (laws.sure_of_tests filter default test sure told.0 (search rules) on_binary told.1) told.1)
