@@ -89,7 +89,6 @@ pub use Rattle.nextest_config_elements_versions.specs.declared.experimental.Expe
 pub use Rattle.nextest_config_elements_versions.specs.declared.experimental.UnknownFeatures
 pub use Rattle.nextest_config_elements_versions.specs.declared.feature.ConfigExperimental
 pub use Rattle.nextest_config_elements_versions.specs.declared.feature.FeatureSet
-pub use Rattle.nextest_config_elements_versions.specs.declared.feature.UnknownFeature
 pub use Rattle.nextest_config_elements_versions.specs.declared.origin.VersionOrigin
 pub use Rattle.nextest_config_elements_versions.specs.declared.origin.VersionSource
 pub use Rattle.nextest_config_elements_versions.specs.declared.source_fault.VersionOnlyError

@@ -35,9 +35,9 @@ pub use nextest_config_elements_values::{
 };
 pub use nextest_config_elements_versions::{
     AskedVersions, ConfigExperimental, ExperimentalConfig, FeatureSet, NextestVersionConfig,
-    NextestVersionEval, NextestVersionReq, UnknownFeature, UnknownFeatures, VersionDemand,
-    VersionOnlyConfig, VersionOnlyError, VersionOrigin, VersionSource, VersionSourceFault,
-    VersionSourceReason, deserialize_experimental, deserialize_nextest_version,
+    NextestVersionEval, NextestVersionReq, UnknownFeatures, VersionDemand, VersionOnlyConfig,
+    VersionOnlyError, VersionOrigin, VersionSource, VersionSourceFault, VersionSourceReason,
+    deserialize_experimental, deserialize_nextest_version,
 };
 pub use nextest_text::{Listing, Text};
 pub use nextest_version::{PlainVersion, VersionError};

@@ -11,7 +11,7 @@ use Rattle.nextest_config_elements_toml.specs.declared.value_error.ValueError.{V
 use Rattle.nextest_config_elements_toml.specs.declared.value_error.ValueError.TheVariants as value_error
 use Rattle.nextest_config_elements_versions.specs.Features.{known_in, union}
 use Rattle.nextest_config_elements_versions.specs.Laws.{OneConfig, EachComes, Partition, PartitionOfSources, Associative, Neutral}
-use Rattle.nextest_config_elements_versions.specs.Sources.{Asking, Comes, GivesConfig, GivesDemand, IsRefusal, Reason, bad_value, ask_of, Refusal, TellsReason, read_for, add, askings, config_in, config_of, demand_in, features_in, merge_of, origin_of, recommended_in, required_in, unknown_features_of, unknown_of, Source, version_source_of}
+use Rattle.nextest_config_elements_versions.specs.Sources.{Asking, Comes, GivesConfig, GivesDemand, IsRefusal, Reason, bad_value, ask_of, Refusal, TellsReason, read_for, add, askings, config_in, config_of, demand_in, features_in, merge_of, origin_of, recommended_in, required_in, unknown_of, Source, version_source_of}
 use Rattle.nextest_config_elements_versions.specs.Verdict.{Ask, IsReq, asked_by, later_of}
 use Rattle.nextest_config_elements_versions.specs.declared.demand.VersionDemand.{VersionDemand}
 use Rattle.nextest_config_elements_versions.specs.declared.experimental.UnknownFeatures.{UnknownFeatures}

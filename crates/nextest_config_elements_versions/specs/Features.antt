@@ -2,10 +2,10 @@
 use Rattle.std.specs.Prelude.{ℕ, Bool, ◌||◌, ◌≡◌, List, Option, None, Some, Result, Ok, Err, codes, is_none, if◌then◌else◌}
 use Rattle.std.specs.List.{list_any, filter}
 use Rattle.std.specs.Str.{bytes_eq}
+use Rattle.nextest_config_elements_choices.specs.declared.max_fail.BadText.{BadText}
 use Rattle.nextest_config_elements_versions.specs.declared.feature.ConfigExperimental.{ConfigExperimental}
 use Rattle.nextest_config_elements_versions.specs.declared.feature.ConfigExperimental.TheVariants as feature
 use Rattle.nextest_config_elements_versions.specs.declared.feature.FeatureSet.{FeatureSet}
-use Rattle.nextest_config_elements_versions.specs.declared.feature.UnknownFeature.{UnknownFeature}
 
 -- the name of a feature
 abbrev pub text_of : ConfigExperimental → List ℕ
@@ -22,9 +22,9 @@ feature_of name =
     else None
 
 -- a call gives the feature of a name
-abbrev pub KnownBy : List ℕ → Result ConfigExperimental UnknownFeature → Type 0
+abbrev pub KnownBy : List ℕ → Result ConfigExperimental BadText → Type 0
 KnownBy name (Ok feature) = feature_of name ≡ Some feature
-KnownBy name (Err unknown) = feature_of name ≡ None
+KnownBy name (Err bad) = feature_of name ≡ None
 
 -- the variable of the environment that turns a feature on
 abbrev pub env_var : ConfigExperimental → Option (List ℕ)

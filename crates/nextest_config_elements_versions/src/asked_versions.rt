@@ -20,6 +20,17 @@ pub struct AskedVersions {
     pub recommended: Option<PlainVersion>,
 }
 
+impl Clone for AskedVersions {
+    ghost is_clone = { λ original copy. copy ≡ original };
+
+    fn clone(&self) -> Result<AskedVersions, AllocError> {
+        Ok(AskedVersions {
+            required: self.required.clone()?,
+            recommended: self.recommended.clone()?,
+        })
+    }
+}
+
 const EXPECTED: &'static str = "a version as `X.Y.Z` or `X.Y`";
 
 /// The versions that `value`, at `path`, asks for: a text is the required one, a table may have

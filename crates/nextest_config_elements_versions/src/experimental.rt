@@ -1,13 +1,15 @@
 // The features that sources ask for.
-ghost use Rattle.std.specs.Prelude.{◌≡◌, [], ◌∷◌, ◌++◌, IfOk};
+ghost use Rattle.std.specs.Prelude.{◌≡◌, [], ◌∷◌, ◌++◌, IfOk, OnOk, OnErr};
 ghost use Rattle.nextest_config_elements_versions.specs.Features.{unknown_in};
 ghost use Rattle.nextest_config_elements_versions.specs.Sources.{experimental_of, merged_features, no_experimental, unknown_features_of};
 
-use crate::feature::{ConfigExperimental, FeatureSet, UnknownFeature, known_in};
+use crate::feature::{ConfigExperimental, FeatureSet, known_in};
 use crate::features::push_text;
 use crate::origin::VersionOrigin;
+use nextest_config_elements_choices::BadText;
 use nextest_text::{Listing, Text};
 use std::alloc::{AllocError, Global};
+use std::mem;
 
 /// A source that asks for features which aren't known.
 #[derive(Clone, Debug, PartialEq, Eq)]
@@ -75,15 +77,16 @@ impl ExperimentalConfig {
         })
     }
 
-    /// What two parts of a list ask for, that of the other behind. It fails only on allocation.
-    pub fn merge(self, other: ExperimentalConfig) -> Result<ExperimentalConfig, AllocError>
-        ensures { IfOk result (λ it. it ≡ merged_features self other) }
+    /// Puts what another part of a list asks for behind it. An `Err` says that there is no memory,
+    /// and leaves it as it was.
+    pub fn merge(&mut self, other: ExperimentalConfig) -> Result<(), AllocError>
+        ensures merged { OnOk result (self.new ≡ merged_features self.old other) }
+        ensures err { OnErr result (self.new ≡ self.old) }
     {
-        let ExperimentalConfig { known, unknown } = self;
-        Ok(ExperimentalConfig {
-            known: known.union(other.known),
-            unknown: joined(unknown, other.unknown)?,
-        })
+        let ExperimentalConfig { known, unknown } = other;
+        append(&mut self.unknown, unknown)?;
+        self.known = self.known.union(known);
+        Ok(())
     }
 }
 
@@ -104,17 +107,20 @@ fn unknown_of(
     Ok(unknown)
 }
 
-// Two lists in a row.
-fn joined(
-    mut front: Listing<UnknownFeatures>,
+// Puts a list behind another, which stays as it was where there is no memory.
+fn append(
+    front: &mut Listing<UnknownFeatures>,
     behind: Listing<UnknownFeatures>,
-) -> Result<Listing<UnknownFeatures>, AllocError>
-    ensures { IfOk result (λ it. it ≡ front ++ behind) }
+) -> Result<(), AllocError>
+    ensures ok { OnOk result (front.new ≡ front.old ++ behind) }
+    ensures err { OnErr result (front.new ≡ front.old) }
 {
-    for unknown in Vec::from(behind) {
-        front.push(unknown)?;
-    }
-    Ok(front)
+    let mut behind = Vec::from(behind);
+    let empty = Listing::new(*behind.allocator());
+    let mut whole = Vec::from(mem::replace(front, empty));
+    let appended = whole.append(&mut behind);
+    *front = Listing::from(whole);
+    appended
 }
 
 // The names that are no feature's, in their order.
@@ -134,6 +140,6 @@ fn push_unknown(alloc: Global, unknown: &mut Listing<Text>, name: &str) -> Resul
 {
     match ConfigExperimental::from_text(name) {
         Ok(_) => Ok(()),
-        Err(UnknownFeature) => push_text(alloc, unknown, name),
+        Err(BadText) => push_text(alloc, unknown, name),
     }
 }

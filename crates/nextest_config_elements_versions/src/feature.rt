@@ -3,9 +3,9 @@ ghost use Rattle.std.specs.Prelude.{◌≡◌, [], ◌∷◌, option_map};
 ghost use Rattle.nextest_config_elements_versions.specs.Features.{contains, env_var, is_named, KnownBy, known_in, text_of, union};
 ghost use Rattle.nextest_config_elements_versions.specs.declared.feature.ConfigExperimental.TheVariants.{SetupScripts, WrapperScripts, Benchmarks};
 
+use nextest_config_elements_choices::BadText;
 use nextest_text::Text;
 use std::fmt;
-use thiserror::Error;
 
 /// An experimental feature. They stand in the order in which they are listed.
 #[derive(Clone, Copy, Debug, PartialEq, Eq, PartialOrd, Ord, Hash)]
@@ -18,14 +18,9 @@ pub enum ConfigExperimental {
     Benchmarks,
 }
 
-/// A name that is no feature's.
-#[derive(Clone, Copy, Debug, PartialEq, Eq, Error)]
-#[error("unknown experimental feature: expected `setup-scripts`, `wrapper-scripts` or `benchmarks`")]
-pub struct UnknownFeature;
-
 impl ConfigExperimental {
     /// The feature of a name. An `Err` where none has it.
-    pub fn from_text(text: &str) -> Result<ConfigExperimental, UnknownFeature>
+    pub fn from_text(text: &str) -> Result<ConfigExperimental, BadText>
         ensures { KnownBy text.now result }
     {
         if text == "setup-scripts" {
@@ -37,7 +32,7 @@ impl ConfigExperimental {
         if text == "benchmarks" {
             return Ok(ConfigExperimental::Benchmarks);
         }
-        Err(UnknownFeature)
+        Err(BadText)
     }
 
     /// Its name.

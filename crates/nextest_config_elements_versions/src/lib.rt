@@ -22,7 +22,7 @@ mod version_req;
 pub use asked_versions::{AskedVersions, deserialize_nextest_version};
 pub use demand::VersionDemand;
 pub use experimental::{ExperimentalConfig, UnknownFeatures};
-pub use feature::{ConfigExperimental, FeatureSet, UnknownFeature};
+pub use feature::{ConfigExperimental, FeatureSet};
 pub use features::deserialize_experimental;
 pub use origin::{VersionOrigin, VersionSource};
 pub use source_fault::{VersionOnlyError, VersionSourceFault, VersionSourceReason};

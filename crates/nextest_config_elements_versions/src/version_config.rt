@@ -1,5 +1,5 @@
 // The versions that count of a list of sources.
-ghost use Rattle.std.specs.Prelude.{◌≡◌, IfOk};
+ghost use Rattle.std.specs.Prelude.{◌≡◌, IfOk, OnOk, OnErr};
 ghost use Rattle.nextest_config_elements_versions.specs.Verdict.{asked_in, merged_versions, none_asked};
 
 use crate::asked_versions::AskedVersions;
@@ -44,29 +44,31 @@ impl NextestVersionConfig {
         })
     }
 
-    /// What counts with one more source behind the others. It fails only on allocation.
+    /// Puts one more source behind the others. An `Err` says that there is no memory, and leaves it
+    /// as it was.
     pub fn accumulate(
-        self,
+        &mut self,
         asked: AskedVersions,
         source: &VersionOrigin,
-    ) -> Result<NextestVersionConfig, AllocError>
-        ensures { IfOk result (λ it. it ≡ merged_versions self (asked_in asked source.now)) }
+    ) -> Result<(), AllocError>
+        ensures merged { OnOk result
+            (self.new ≡ merged_versions self.old (asked_in asked source.now)) }
+        ensures err { OnErr result (self.new ≡ self.old) }
     {
         let more = NextestVersionConfig::of_source(asked, source)?;
-        Ok(self.merge(more))
+        self.merge(more);
+        Ok(())
     }
 
-    /// What counts of two parts of a list, the other behind.
-    pub fn merge(self, other: NextestVersionConfig) -> NextestVersionConfig
-        ensures { result ≡ merged_versions self other }
+    /// Puts what counts of another part of a list behind it.
+    pub fn merge(&mut self, other: NextestVersionConfig)
+        ensures { self.new ≡ merged_versions self.old other }
     {
         let NextestVersionConfig {
             required,
             recommended,
-        } = self;
-        NextestVersionConfig {
-            required: required.later_of(other.required),
-            recommended: recommended.later_of(other.recommended),
-        }
+        } = other;
+        self.required.merge(required);
+        self.recommended.merge(recommended);
     }
 }

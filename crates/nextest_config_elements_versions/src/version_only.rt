@@ -1,5 +1,5 @@
 // What a list of sources asks for.
-ghost use Rattle.std.specs.Prelude.{◌≡◌, [], ◌∷◌, Ok, IfOk, map};
+ghost use Rattle.std.specs.Prelude.{◌≡◌, [], ◌∷◌, Ok, IfOk, OnOk, OnErr, map};
 ghost use Rattle.nextest_config_elements_versions.specs.Sources.{Comes, GivesConfig, config_of, merge_of, origin_of, version_source_of};
 
 use crate::demand::{VersionDemand, demand_in};
@@ -39,7 +39,7 @@ impl VersionOnlyConfig {
         let mut config = VersionOnlyConfig::none(alloc);
         for source in sources {
             match of_source(alloc, source) {
-                Ok(more) => config = config.merge(more)?,
+                Ok(more) => config.merge(more)?,
                 Err(error) => return Err(error),
             }
         }
@@ -60,22 +60,19 @@ impl VersionOnlyConfig {
         &self.experimental
     }
 
-    /// What two parts of a list ask for, that of the other behind. It fails only on allocation.
-    pub fn merge(self, other: VersionOnlyConfig) -> Result<VersionOnlyConfig, AllocError>
-        ensures { IfOk result (λ it. it ≡ merge_of self other) }
+    /// Puts what another part of a list asks for behind it. An `Err` says that there is no memory,
+    /// and leaves it as it was.
+    pub fn merge(&mut self, other: VersionOnlyConfig) -> Result<(), AllocError>
+        ensures merged { OnOk result (self.new ≡ merge_of self.old other) }
+        ensures err { OnErr result (self.new ≡ self.old) }
     {
         let VersionOnlyConfig {
             nextest_version,
             experimental,
-        } = self;
-        let VersionOnlyConfig {
-            nextest_version: versions_behind,
-            experimental: features_behind,
         } = other;
-        Ok(VersionOnlyConfig {
-            nextest_version: nextest_version.merge(versions_behind),
-            experimental: experimental.merge(features_behind)?,
-        })
+        self.experimental.merge(experimental)?;
+        self.nextest_version.merge(nextest_version);
+        Ok(())
     }
 }
 

@@ -61,11 +61,14 @@ impl NextestVersionReq {
         }
     }
 
-    // What counts of two parts of a list.
-    pub(crate) fn later_of(self, other: NextestVersionReq) -> NextestVersionReq
-        ensures { result ≡ later_of self other }
+    // Puts what counts of another part of a list behind it.
+    pub(crate) fn merge(&mut self, other: NextestVersionReq)
+        ensures { self.new ≡ later_of self.old other }
     {
-        if stays(&self, &other) { self } else { other }
+        if stays(self, &other) {
+            return;
+        }
+        *self = other;
     }
 }
 

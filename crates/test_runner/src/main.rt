@@ -11,12 +11,6 @@ const USAGE: u8 = 2;
 
 const FAULT: u8 = 74;
 
-// A block of so many bytes is taken and freed before all else, and never written to. glibc gives a
-// freed block back to the system where it is larger than each one that was freed before it, up to
-// 32 MiB; after this one it keeps the smaller ones, so that the memory in which inputs were read
-// serves their plan. Another allocator gains nothing by it, and loses nothing.
-const GREATEST_BLOCK: usize = (1 << 25) - (1 << 16);
-
 fn main(rt: HostRuntime) -> ExitCode {
     let is_used_well = match env::args(&rt) {
         Ok(arguments) => arguments.count() <= 1,
@@ -26,7 +20,6 @@ fn main(rt: HostRuntime) -> ExitCode {
         let _ = eprintln!(rt; "usage: test-runner");
         return ExitCode::from(USAGE);
     }
-    drop(Vec::<u8>::with_capacity(rt.alloc(), GREATEST_BLOCK));
     let mut input = StdReader::new(rt.reader());
     let mut report = StdWriter::new(io::writer(&rt));
     match judge_stream(rt.alloc(), &mut input, &mut report) {

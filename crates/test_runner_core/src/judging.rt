@@ -7,7 +7,6 @@ ghost use Rattle.test_runner_core_session.specs.Session.{session_of};
 ghost use Rattle.test_runner_core.specs.Faults.{CountsReadFailures, CountsWriteFailures};
 ghost use Rattle.test_runner_core.specs.Inside.{HandsNext, JudgesLines, ReadsNext};
 
-use crate::ahead::look_ahead;
 use crate::judge_fault::JudgeFault;
 use crate::judging_line::judge_line;
 use crate::refused_line::{RefusedLine, refusal_for, refused_at};
@@ -54,7 +53,6 @@ pub(crate) fn judge_lines<R: LogReader, W: ReportWriter>(
         if let Some(refusal) = judge_line(alloc, session, lines.line(), text, report)? {
             return Ok(Some(refused_at(number, refusal)));
         }
-        look_ahead(session, lines);
         number += 1;
     }
 }

@@ -157,8 +157,8 @@ fn start(session: &mut RecordSession<'_>, binary: &str, name: &str) -> Result<Li
         binary_id: binary,
         test_name: name,
     };
-    // A log in which no test starts needs no order of names.
-    session.sort_names()?;
+    // A log in which no test starts needs neither the tests' states nor their index.
+    session.prepare()?;
     match session.start(test) {
         Ok(()) => Ok(LineStep::Taken(Finished {
             ended: None,

@@ -7,7 +7,6 @@
 //! log without a plan.
 #![tactic(auto)]
 
-mod ahead;
 mod check;
 mod entry;
 mod judge_fault;
@@ -55,7 +54,7 @@ pub use test_runner_core_platforms::{
 };
 pub use test_runner_core_run_model::{Finished, Mark, RunTest, StepRefusal, exit_status};
 pub use test_runner_core_run_state::StartFault;
-pub use test_runner_core_session::{Fate, MOST_EXPECTED, NextTest, Session};
+pub use test_runner_core_session::{Fate, Session};
 pub use test_runner_core_settings::owned_settings;
 pub use test_runner_core_streams::{
     LogReader, MemoryReader, MemoryWriter, ReportWriter, StdReader, StdWriter, WriteFailure,

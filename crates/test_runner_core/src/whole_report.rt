@@ -44,7 +44,7 @@ pub(crate) fn judge_plan<R: LogReader, W: ReportWriter>(
     ensures write_failures { CountsWriteFailures result (W.failures report.old)
         (W.failures report.new) (W.last_failed report.new) }
 {
-    let mut session = RecordSession::unsorted(alloc, plan)?;
+    let mut session = RecordSession::unprepared(alloc, plan)?;
     let mut text = String::new(alloc);
     let found = judge_lines(alloc, &mut session, lines, log, &mut text, report)?;
     Ok(end_report(alloc, &mut text, report, &session, found)?)

@@ -24,7 +24,7 @@ use test_runner_core_workspace::WorkspaceRecord;
 pub const MAX_INPUTS_LEN: usize = 1 << 24;
 
 /// The inputs of a run.
-#[derive(Debug)]
+#[derive(Clone, Debug)]
 pub struct Inputs {
     /// The packages and test binaries, not yet checked.
     pub workspace: WorkspaceRecord,

@@ -4,7 +4,7 @@ use std::alloc::{AllocError, AllocFailed};
 use thiserror::Error;
 
 /// Why bytes are no inputs, or why that isn't known.
-#[derive(Debug, PartialEq, Eq, Drop, Error)]
+#[derive(Clone, Debug, PartialEq, Eq, Drop, Error)]
 pub enum InputsError {
     /// They are refused.
     #[error(transparent)]
@@ -15,7 +15,7 @@ pub enum InputsError {
 }
 
 /// Why bytes are no inputs.
-#[derive(Debug, PartialEq, Eq, Drop, Error)]
+#[derive(Clone, Debug, PartialEq, Eq, Drop, Error)]
 pub enum InputsRefusal {
     /// They are no JSON in UTF-8, or more than 16,777,216.
     #[error("the inputs are no JSON, or too long")]

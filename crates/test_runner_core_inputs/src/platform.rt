@@ -10,7 +10,7 @@ use nextest_text::{Listing, Text};
 use std::alloc::Global;
 
 /// What is known of a platform.
-#[derive(Debug)]
+#[derive(Clone, Debug)]
 pub struct FactRecord {
     /// Its name.
     pub name: Text,
@@ -31,7 +31,7 @@ impl Drop for FactRecord {
 }
 
 /// A platform, not yet checked.
-#[derive(Debug)]
+#[derive(Clone, Debug)]
 pub struct PlatformRecord {
     /// Its triple.
     pub triple: Text,

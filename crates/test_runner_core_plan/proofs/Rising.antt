@@ -1,17 +1,21 @@
--- Tests that are compared for whether one is at most another.
-use Rattle.std.proofs.Common.{◌≡◌, Some, refl}
-use Rattle.std.specs.Cmp.Lexicographic.{slice_cmp}
-use Rattle.std.specs.Ordering.{nat_cmp, ordering_then, partial_ordering_then}
+-- Tests of which none is greater than the next rise.
+use Rattle.std.proofs.Common.{◌≡◌, ◌+◌, Bool, List, true, false, refl, ap, ◌∙◌, slice_index_or, IsTrue}
+use Rattle.std.specs.Cmp.{IsTotalOrder}
+use Rattle.std.specs.Ordering.{is_le, is_lt, ordering_reverse}
 use Rattle.std.specs.declared.cmp.Ordering.{Ordering}
 use Rattle.std.specs.declared.cmp.Ordering.TheVariants.{Less, Equal, Greater}
-use Rattle.nextest_run_events_results.specs.declared.instance.OwnedTestInstanceId.{OwnedTestInstanceId}
-use Rattle.test_runner_core_plan.specs.Order.{instance_cmp}
+use Rattle.std.specs.List.{IsAllAdjacentAnswer}
+use Rattle.std.specs.List.Sorted.{IsSorted}
 
-both : (ids names : Ordering) → partial_ordering_then (Some ids) (Some names) ≡ Some (ordering_then ids names)
-both Less names = refl
-both Equal names = refl
-both Greater names = refl
+turned : (o : Ordering) → true ≡ is_le o → is_lt (ordering_reverse o) ≡ false
+turned Less h = refl
+turned Equal h = refl
+turned Greater h = cc
 
--- the order of tests that are tried for one, which is always there
-pub agrees : (a b : OwnedTestInstanceId) → partial_ordering_then (Some (slice_cmp nat_cmp a.binary_id b.binary_id)) (Some (slice_cmp nat_cmp a.test_name b.test_name)) ≡ Some (instance_cmp a b)
-agrees a b = both (slice_cmp nat_cmp a.binary_id b.binary_id) (slice_cmp nat_cmp a.test_name b.test_name)
+-- where each is said to be at most the next, none is less than the one before it
+pub rises : {X : Type 0} (cmp : X → X → Ordering) → IsTotalOrder cmp → (xs : List X) (answer : Bool) → IsAllAdjacentAnswer (λ x y b. b ≡ is_le (cmp x y)) xs answer → IsTrue answer → IsSorted cmp xs
+rises cmp total xs true each h = λ k d first within.
+    let x = slice_index_or xs k d in
+    let y = slice_index_or xs (k + 1) d in
+    ap is_lt (total.antisymm y x) ∙ turned (cmp x y) (each k d within)
+rises cmp total xs false each h = cc

@@ -17,8 +17,10 @@ impl TextsDigest {
         }
     }
 
-    /// One text more.
+    /// One text more, behind its length, so that lists of texts with one concatenation differ.
     pub fn add(&mut self, text: &str) {
+        let length = text.len() as u64;
+        self.digest.update(&length.to_le_bytes());
         self.digest.update(text.as_bytes());
     }
 

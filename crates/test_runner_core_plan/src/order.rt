@@ -1,6 +1,7 @@
 // In which order a plan has its tests.
 ghost use Rattle.std.specs.Prelude.{◌≡◌, IsTrue};
 ghost use Rattle.std.specs.List.Sorted.{IsPermutation, IsSorted};
+ghost use Rattle.std.specs.Ordering.{is_le};
 ghost use Rattle.test_runner_core_plan.specs.Order.{plan_cmp};
 
 use crate::plan::PlanTest;
@@ -8,20 +9,12 @@ use nextest_config_elements_values::TestPriority;
 use nextest_text::Listing;
 use std::cmp::Ordering;
 
-// Of how many tests the names are read before they are compared, so that the processor waits for
-// several of them at once.
-const TOGETHER: usize = 32;
-
 /// Tests in the order in which a plan has them: by greater priority, then by binary id, then by
 /// name. It never fails: where there is no memory for it, sorting only takes longer.
 pub fn in_order(mut tests: Vec<PlanTest>) -> Listing<PlanTest>
     ensures same { IsPermutation tests.items result }
     ensures order { IsSorted plan_cmp result }
 {
-    if stand_in_order(tests.as_slice()) {
-        return Listing::from(tests);
-    }
-    sort_by_priority(&mut tests);
     if stand_in_order(tests.as_slice()) {
         return Listing::from(tests);
     }
@@ -35,18 +28,6 @@ pub fn in_order(mut tests: Vec<PlanTest>) -> Listing<PlanTest>
         { compare(one, other) },
     );
     Listing::from(tests)
-}
-
-// Puts tests in the order of their priorities, and leaves those of one priority in their order. So
-// they are in the order of a plan then where they were listed by their binary ids and names. Where
-// there is no memory, all stay as they were.
-fn sort_by_priority(tests: &mut Vec<PlanTest>)
-    ensures { IsPermutation tests.old.items tests.new.items }
-{
-    if have_one_priority(tests.as_slice()) {
-        return;
-    }
-    let _ = tests.sort_by_cached_key(|test: &PlanTest| test.settings.priority);
 }
 
 // Whether tests all have the priority of the first.
@@ -139,39 +120,15 @@ fn number_at(text: &str, skip: usize) -> u128 {
     u128::from_be_bytes(bytes)
 }
 
-// Whether no test is less than the one before it. Mostly they stand so already, and none is moved.
+// Whether no test is greater than the next. Mostly they stand so already, and none is moved.
 fn stand_in_order(tests: &[PlanTest]) -> bool
     ensures { IsTrue result → IsSorted plan_cmp tests.now }
 {
-    for place in 1..tests.len() {
-        if place % TOGETHER == 1 && first_bytes_fall(&tests[place - 1..]) {
-            return false;
-        }
-        if compare(&tests[place], &tests[place - 1]).is_lt() {
-            return false;
-        }
-    }
-    true
-}
-
-// Whether one of the first of these tests has a name that begins with a lesser byte than that of the
-// test before it, of the same priority and binary. This reads the names of many tests at once, which
-// then are at hand as they are compared.
-fn first_bytes_fall(tests: &[PlanTest]) -> bool {
-    for (before, test) in tests.iter().zip(tests.iter().skip(1)).take(TOGETHER) {
-        if first_byte(test) < first_byte(before)
-            && test.instance.binary_id == before.instance.binary_id
-            && test.settings.priority == before.settings.priority
-        {
-            return true;
-        }
-    }
-    false
-}
-
-// The first byte of a test's name.
-fn first_byte(test: &PlanTest) -> Option<u8> {
-    test.instance.test_name.as_str().as_bytes().first().copied()
+    tests.is_sorted_by(
+        |one: &PlanTest, other: &PlanTest| -> bool
+            ensures { result ≡ is_le (plan_cmp one.now other.now) }
+        { compare(one, other).is_le() },
+    )
 }
 
 // Which of two tests comes first.

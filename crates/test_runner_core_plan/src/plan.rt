@@ -4,6 +4,7 @@ use nextest_config_elements_choices::MaxFail;
 use nextest_run_events_results::OwnedTestInstanceId;
 use nextest_run_events_visibility::StatusLevels;
 use nextest_text::{Listing, Text};
+use std::alloc::AllocError;
 
 /// A selected test.
 pub struct PlanTest {
@@ -13,6 +14,20 @@ pub struct PlanTest {
     pub settings: SharedSettings,
     /// How many attempts it has at most, from 1 on in a plan that was built.
     pub tries: u32,
+}
+
+impl Clone for PlanTest {
+    ghost use Rattle.std.specs.Prelude.{◌≡◌};
+
+    ghost is_clone = { λ original copy. copy ≡ original };
+
+    fn clone(&self) -> Result<PlanTest, AllocError> {
+        Ok(PlanTest {
+            instance: self.instance.clone()?,
+            settings: self.settings.clone()?,
+            tries: self.tries,
+        })
+    }
 }
 
 // One call drops it, whoever holds it.
@@ -43,6 +58,32 @@ pub struct Plan {
     pub levels: StatusLevels,
     /// The warnings, as the report tells them.
     pub warnings: Listing<Text>,
+}
+
+impl Clone for Plan {
+    ghost use Rattle.std.specs.Prelude.{◌≡◌};
+
+    ghost is_clone = { λ original copy. copy ≡ original };
+
+    fn clone(&self) -> Result<Plan, AllocError> {
+        let scripts = self.scripts.clone()?;
+        let tests = self.tests.clone()?;
+        let listed = self.listed.clone()?;
+        let skipped = self.skipped.clone()?;
+        let warnings = self.warnings.clone()?;
+        Ok(Plan {
+            scripts,
+            tests,
+            listed,
+            skipped,
+            limit: self.limit,
+            levels: StatusLevels {
+                status_level: self.levels.status_level,
+                final_status_level: self.levels.final_status_level,
+            },
+            warnings,
+        })
+    }
 }
 
 // One call drops it, whoever holds it.

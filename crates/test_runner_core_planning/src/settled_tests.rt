@@ -1,10 +1,10 @@
 // The selected tests with their settings, and the setup scripts that are enabled for them.
-ghost use Rattle.std.specs.Prelude.{◌≡◌, ◌<◌, ◌+◌, ◌++◌, ℕ, List, IfOk, IfSome, OnOk, Some, length, map, slice_get, true};
+ghost use Rattle.std.specs.Prelude.{◌≡◌, ◌+◌, ◌++◌, ℕ, List, IfOk, IfSome, OnOk, length, map, slice_get, true};
 ghost use Rattle.std.specs.List.Sorted.{IsPermutation};
 ghost use Rattle.nextest_config_elements_choices.specs.declared.run_mode.NextestRunMode.{NextestRunMode};
 ghost use Rattle.nextest_config_resolution_profiles.specs.Enabled.{AreNamesOf, HasEnabled, IsEnabled};
 ghost use Rattle.nextest_config_resolution_profiles.specs.Evaluatable.{Evaluatable};
-ghost use Rattle.nextest_config_resolution_profiles.specs.HeldRules.{AreHeldColumns, AreNumbers, held_row, row_number, rule_count};
+ghost use Rattle.nextest_config_resolution_profiles.specs.HeldRules.{AreHeldColumns, held_row, row_number, rule_count};
 ghost use Rattle.nextest_filtering_compiling.specs.Filtersets.{HasOnTest};
 ghost use Rattle.nextest_filtering_compiling.specs.declared.filterset.Filterset.{Filterset};
 ghost use Rattle.nextest_filtering_filters.specs.Query.{Test};
@@ -54,9 +54,6 @@ impl Drop for RowSettings {
         } = self;
     }
 }
-
-// Of how many numbers the place of the last test is kept.
-const SEEN: usize = 64;
 
 // Settings that tests share, by a number of the row.
 type SettingsByRow = BTreeMap<u64, RowSettings>;
@@ -147,51 +144,12 @@ fn settings_of_each(
 {
     let numbers = held.numbers(alloc, count)?;
     let mut each = Vec::with_capacity(alloc, count)?;
-    let mut seen = [0; SEEN];
     for place in 0..count {
         let number = numbers[place];
-        let slot = slot_of(number);
-        let before = seen[slot];
-        let same = settings_before(held, numbers.as_slice(), each.as_slice(), before, place);
-        let settings = match same {
-            Some(settings) => settings.clone()?,
-            None => settings_at(alloc, profile, mode, held, place, number, shared)?,
-        };
-        seen[slot] = place;
+        let settings = settings_at(alloc, profile, mode, held, place, number, shared)?;
         each.push(settings)?;
     }
     Ok(each)
-}
-
-// In which slot the place of the last test is kept that has a number.
-fn slot_of(number: u64) -> usize
-    ensures { result < SEEN }
-{
-    (number.wrapping_mul(0x9e37_79b9_7f4a_7c15) >> 58) as usize
-}
-
-// The settings of an earlier test, where the same rules hold on it as on the one at a place: of at
-// most 64 rules their numbers tell it.
-fn settings_before<'e>(
-    held: &HeldRules,
-    numbers: &[u64],
-    each: &'e [SharedSettings],
-    before: usize,
-    place: usize,
-) -> Option<&'e SharedSettings>
-    requires numbered { AreNumbers
-        (λ place. held_row place held.now) (length numbers.now) numbers.now }
-    requires within { place < length numbers.now }
-    ensures { IfSome result (λ it. (slice_get each.now before ≡ Some it.now)
-        × (held_row before held.now ≡ held_row place held.now)) }
-{
-    if held.count() > 64 || before >= numbers.len() || numbers[before] != numbers[place] {
-        return None;
-    }
-    let Some(settings) = each.get(before) else {
-        return None;
-    };
-    Some(settings)
 }
 
 // Which rules of a profile hold on the tests of a binary with these names, found at once for all of

@@ -7,6 +7,8 @@ ghost use Rattle.test_runner_core_platforms.specs.Meaning.{condition_value};
 use crate::fact::PlatformFacts;
 use crate::outcomes::Outcomes;
 use crate::part::{Joint, Part, split_child, split_last};
+use nextest_text::Listing;
+use std::alloc::AllocError;
 use std::marker::Model;
 
 /// What holds on a platform or doesn't. In a clause it is its parts, and what they make up is
@@ -14,7 +16,7 @@ use std::marker::Model;
 /// deeper.
 #[derive(Drop)]
 pub(crate) struct Condition {
-    parts: Vec<Part>,
+    parts: Listing<Part>,
 }
 
 impl Model for Condition {
@@ -24,9 +26,21 @@ impl Model for Condition {
 
     ghost Value = { List words.Part };
 
-    ghost view = { λ it. it.parts.items };
+    ghost view = { λ it. it.parts };
 
-    ghost invariant = { λ it. IsFlat it.parts.items };
+    ghost invariant = { λ it. IsFlat it.parts };
+}
+
+impl Clone for Condition {
+    ghost use Rattle.std.specs.Prelude.{◌≡◌};
+
+    ghost is_clone = { λ original copy. copy ≡ original };
+
+    fn clone(&self) -> Result<Condition, AllocError> {
+        Ok(Condition {
+            parts: self.parts.clone()?,
+        })
+    }
 }
 
 impl Condition {
@@ -35,7 +49,9 @@ impl Condition {
         requires flat { IsFlat parts.items }
         ensures { result ≡ parts.items }
     {
-        Condition { parts }
+        Condition {
+            parts: Listing::from(parts),
+        }
     }
 
     /// Whether it holds on a platform; `None` where the facts don't tell. It takes no memory.

@@ -19,11 +19,40 @@ pub struct Fact {
     pub holds: bool,
 }
 
+impl Clone for Fact {
+    ghost use Rattle.std.specs.Prelude.{◌≡◌};
+
+    ghost is_clone = { λ original copy. copy ≡ original };
+
+    fn clone(&self) -> Result<Fact, AllocError> {
+        let name = self.name.clone()?;
+        let value = self.value.clone()?;
+        Ok(Fact {
+            name,
+            value,
+            holds: self.holds,
+        })
+    }
+}
+
 /// What is known of a platform: its triple, and facts, no two of which have the same name and the
 /// same value.
 pub struct PlatformFacts {
     triple: Text,
     known: Listing<Fact>,
+}
+
+impl Clone for PlatformFacts {
+    ghost use Rattle.std.specs.Prelude.{◌≡◌};
+
+    ghost is_clone = { λ original copy. copy ≡ original };
+
+    fn clone(&self) -> Result<PlatformFacts, AllocError> {
+        Ok(PlatformFacts {
+            triple: self.triple.clone()?,
+            known: self.known.clone()?,
+        })
+    }
 }
 
 impl Drop for PlatformFacts {

@@ -15,6 +15,7 @@ pub(crate) enum Joint {
 
 /// A part of a condition. The parts of a condition stand one after another, each operation right
 /// behind what it is over, so that none holds another.
+#[derive(Clone)]
 pub(crate) enum Part {
     /// A name.
     Fact(Text),

@@ -14,7 +14,7 @@ use crate::stop::Stop;
 use nextest_config_resolution_filters::{SpecError, Specs};
 use nextest_filtering_arguments::skip_blanks;
 use nextest_text::Text;
-use std::alloc::Global;
+use std::alloc::{AllocError, Global};
 
 /// On which platforms something applies: those of one triple, or those on which a condition holds.
 pub struct PlatformSpec {
@@ -27,6 +27,18 @@ impl Drop for PlatformSpec {
     }
 }
 
+impl Clone for PlatformSpec {
+    ghost use Rattle.std.specs.Prelude.{◌≡◌};
+
+    ghost is_clone = { λ original copy. copy ≡ original };
+
+    fn clone(&self) -> Result<PlatformSpec, AllocError> {
+        Ok(PlatformSpec {
+            kind: self.kind.clone()?,
+        })
+    }
+}
+
 // The two kinds of specs.
 #[derive(Drop)]
 enum Kind {
@@ -34,6 +46,19 @@ enum Kind {
     Triple(Text),
     // Those on which a condition holds.
     Cfg(Condition),
+}
+
+impl Clone for Kind {
+    ghost use Rattle.std.specs.Prelude.{◌≡◌};
+
+    ghost is_clone = { λ original copy. copy ≡ original };
+
+    fn clone(&self) -> Result<Kind, AllocError> {
+        match self {
+            Kind::Triple(name) => Ok(Kind::Triple(name.clone()?)),
+            Kind::Cfg(it) => Ok(Kind::Cfg(it.clone()?)),
+        }
+    }
 }
 
 // What follows `cfg` and its `(`.

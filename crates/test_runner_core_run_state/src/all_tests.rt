@@ -95,6 +95,13 @@ impl<A: KeepAttempts> AllTests<A> {
         self.tests.attempts(place)
     }
 
+    // Makes their states, where that isn't done. An `Err` changes nothing.
+    pub(crate) fn make(&mut self, alloc: Global) -> Result<(), AllocError>
+        ensures { self.new ≡ self.old }
+    {
+        self.tests.make(alloc)
+    }
+
     // An attempt of the test at a place starts. An `Err` changes nothing.
     pub(crate) fn start(&mut self, alloc: Global, place: usize) -> Result<(), AllocError>
         requires { IsStartable self.old place }

@@ -76,8 +76,8 @@ impl<A: KeepAttempts> Model for Progress<A> {
 
 impl<A: KeepAttempts> Progress<A> {
     /// The run in which nothing ended, of so many scripts and of these tests, where `skipped`
-    /// others were skipped. Makes the room for each script's status; what is kept of the tests is
-    /// made when the first of them starts. It fails only on allocation.
+    /// others were skipped. Makes the room for each script's status; the tests' states are made by
+    /// `make_states`, or when the first of them starts. It fails only on allocation.
     pub fn new(
         alloc: Global,
         scripts: usize,
@@ -103,8 +103,16 @@ impl<A: KeepAttempts> Progress<A> {
         })
     }
 
-    /// An attempt of the test at a place starts: reserves the room of its end, and the first time
-    /// that of all tests. An `Err` says why it can't start now, or that there was no memory, and
+    /// Makes the room for each test's state, where that isn't done yet. Only time and memory depend
+    /// on it. It fails only on allocation, and leaves everything as it was.
+    pub fn make_states(&mut self) -> Result<(), AllocError>
+        ensures { self.new ≡ self.old }
+    {
+        self.tests.make(self.alloc)
+    }
+
+    /// An attempt of the test at a place starts: reserves the room of its end, and that of all
+    /// tests' states where it isn't made. An `Err` says why it can't start now, or that there was no memory, and
     /// leaves everything as it was.
     pub fn start(&mut self, test: usize) -> Result<(), StartFault>
         ensures { Starts self.old test result self.new }

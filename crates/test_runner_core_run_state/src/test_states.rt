@@ -1,4 +1,4 @@
-// The states of the tests of a run, which are made when the first of them starts.
+// The states of the tests of a run, which are made when the first of them starts, or before.
 ghost use Rattle.std.specs.Prelude.{◌≡◌, ◌^◌, ◌<◌, map, length, slice_get};
 ghost use Rattle.std.specs.Prelude.{Some, IfOk, OnOk, OnErr};
 ghost use Rattle.std.specs.Option.{option_map};
@@ -19,14 +19,15 @@ use std::alloc::{AllocError, Global};
 use std::marker::Model;
 use test_runner_core_run_model::{Mark, RunTest};
 
-// The states of the tests of a run. They are made when the first test starts: who just plans a run
-// needs none of them. In a clause they are the states, by the tests' places.
+// The states of the tests of a run. They are made when they are asked for, or when the first test
+// starts: who just plans a run needs none of them. In a clause they are the states, by the tests'
+// places.
 pub(crate) struct TestStates<A: KeepAttempts> {
-    // What is planned of the tests, until one of them starts.
+    // What is planned of the tests, until their states are made.
     planned: Vec<RunTest>,
     // The tests, from then on.
     tests: Vec<TestProgress<A>>,
-    // What is kept of a test until one starts.
+    // What is kept of a test until then.
     unstarted: A,
 }
 
@@ -109,6 +110,13 @@ impl<A: KeepAttempts> TestStates<A> {
         }
         let test = self.tests.as_slice().get(place)?;
         Some(test.attempts())
+    }
+
+    // Makes the states, where that isn't done. An `Err` changes nothing.
+    pub(crate) fn make(&mut self, alloc: Global) -> Result<(), AllocError>
+        ensures { self.new ≡ self.old }
+    {
+        begin(alloc, &mut self.planned, &mut self.tests)
     }
 
     // An attempt of the test at a place starts. An `Err` changes nothing.

@@ -1,3 +1,2 @@
 pub mod ByName
-pub mod Rising
 pub mod InOrder

@@ -8,7 +8,6 @@ ghost use Rattle.test_runner_core_run_model.specs.declared.event.Event.TheVarian
 ghost use Rattle.test_runner_core_session.specs.Names.{script_place};
 ghost use Rattle.test_runner_core_session.specs.Session.{place_in, session_of, run_test, IsKeptTest};
 
-use crate::expected::{Expected, NextTest};
 use crate::places::Places;
 use nextest_run_events_counters::{FinalRunStats, RunStats};
 use nextest_run_events_outputs::{LiveSpec, SetupScriptExecuteStatus};
@@ -36,8 +35,6 @@ pub struct KeptTest<'s, A> {
 pub struct PlanRun<'a, A: KeepAttempts> {
     plan: &'a Plan,
     places: Places<'a>,
-    // Where the tests may stand that start next.
-    expected: Expected,
     pub(crate) progress: Progress<A>,
 }
 
@@ -47,7 +44,6 @@ impl<A: KeepAttempts> Drop for PlanRun<'_, A> {
         let Self {
             plan: _,
             places: _,
-            expected: _,
             progress: _,
         } = self;
     }
@@ -65,20 +61,20 @@ impl<'a, A: KeepAttempts> Model for PlanRun<'a, A> {
 }
 
 impl<'a, A: KeepAttempts> PlanRun<'a, A> {
-    /// The run in which nothing ended. Makes the room for each script's status, and puts the tests'
-    /// names in order; what is kept of the tests is made when the first of them starts. It fails
-    /// only on allocation.
+    /// The run in which nothing ended. Makes the room for each script's status and each test's
+    /// state, and the index of the tests by name. It fails only on allocation.
     pub fn new(alloc: Global, plan: &'a Plan) -> Result<PlanRun<'a, A>, AllocError>
         ensures { IfOk result (λ session. session ≡ session_of plan.now) }
     {
-        let mut run = PlanRun::unsorted(alloc, plan)?;
-        run.sort_names()?;
+        let mut run = PlanRun::unprepared(alloc, plan)?;
+        run.prepare()?;
         Ok(run)
     }
 
-    /// The same, whose tests' names aren't put in order yet: until `sort_names` does so, a look-up
-    /// takes time in proportion to the tests. It fails only on allocation.
-    pub fn unsorted(alloc: Global, plan: &'a Plan) -> Result<PlanRun<'a, A>, AllocError>
+    /// The same, without the tests' states and their index yet: until `prepare` makes them, a
+    /// look-up takes time in proportion to the tests, and a start the memory of all states. It
+    /// fails only on allocation.
+    pub fn unprepared(alloc: Global, plan: &'a Plan) -> Result<PlanRun<'a, A>, AllocError>
         ensures { IfOk result (λ session. session ≡ session_of plan.now) }
     {
         let tests = plan.tests.as_slice();
@@ -86,7 +82,6 @@ impl<'a, A: KeepAttempts> PlanRun<'a, A> {
         Ok(PlanRun {
             plan,
             places: Places::new(alloc, tests),
-            expected: Expected::new(),
             progress: Progress::new(
                 alloc,
                 plan.scripts.len(),
@@ -97,45 +92,23 @@ impl<'a, A: KeepAttempts> PlanRun<'a, A> {
         })
     }
 
-    /// Puts the tests' names in order, where that isn't done yet. Only time depends on it. It fails
-    /// only on allocation, and leaves everything as it was.
-    pub fn sort_names(&mut self) -> Result<(), AllocError>
-        ensures { self.new ≡ self.old }
-    {
-        self.places.sort()
-    }
-
-    /// Whether it helps to say which tests start next: they come in no order, and none is expected
-    /// any more. Only time depends on it.
-    pub fn wants_tests(&self) -> bool {
-        self.expected.is_empty() && self.places.guesses().is_some()
-    }
-
-    /// Is told which tests are likely to start next, in their order, in place of those that were
-    /// expected before; those behind the first `MOST_EXPECTED` are passed over, and so are all
-    /// where tests come in their order. Their memory is read together, so that they start quicker;
-    /// each start takes one of them off, whichever test it is of. Only time depends on it.
-    pub fn expect_tests(&mut self, tests: &[NextTest<'_>])
-        ensures { self.new ≡ self.old }
-    {
-        if let Some(guesses) = self.places.guesses() {
-            let planned = self.plan.tests.as_slice();
-            self.expected
-                .look_for(tests, guesses, planned, &self.progress);
-        }
-    }
-
-    /// An attempt of a test starts: reserves the room of its end, and the first time that of all
-    /// tests. An `Err` says why it can't start now, or that there was no memory, and leaves
+    /// Makes the room for each test's state, and the index of the tests by name, where that isn't
+    /// done yet. Only time and memory depend on it. It fails only on allocation, and leaves
     /// everything as it was.
+    pub fn prepare(&mut self) -> Result<(), AllocError>
+        ensures { self.new ≡ self.old }
+    {
+        self.places.make_index()?;
+        self.progress.make_states()
+    }
+
+    /// An attempt of a test starts: reserves the room of its end. An `Err` says why it can't start
+    /// now, or that there was no memory, and leaves everything as it was.
     pub fn start(&mut self, test: TestInstanceId<'_>) -> Result<(), StartFault>
         ensures plan { self.new.plan ≡ self.old.plan }
         ensures step { Starts self.old.run (place_in self.old.plan test.entry.binary_id.now
             test.entry.test_name.now) result self.new.run }
     {
-        if let Some(place) = self.expected.take_next() {
-            self.places.begin_at(place);
-        }
         let place = self.places.find(test);
         self.progress.start(place)
     }

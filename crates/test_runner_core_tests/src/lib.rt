@@ -7,6 +7,8 @@ mod failing_streams;
 #[cfg(test)]
 mod filtersets;
 #[cfg(test)]
+mod keyed;
+#[cfg(test)]
 mod lines;
 #[cfg(test)]
 mod lister;

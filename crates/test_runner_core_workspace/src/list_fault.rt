@@ -4,7 +4,7 @@ use std::alloc::{AllocError, AllocFailed};
 use thiserror::Error;
 
 /// Why a binary's tests weren't listed.
-#[derive(Debug, PartialEq, Eq, Drop, Error)]
+#[derive(Clone, Debug, PartialEq, Eq, Drop, Error)]
 pub enum ListFault {
     /// The binary can't list them, for this cause.
     #[error("{0}")]

@@ -15,6 +15,7 @@ use std::marker::Model;
 /// and the ids that it was asked for.
 #[derive(Drop)]
 pub struct TableLister<'a> {
+    alloc: Global,
     record: &'a WorkspaceRecord,
     index: BTreeMap<&'a str, &'a Binary>,
     asked: Listing<Text>,
@@ -37,6 +38,7 @@ impl<'a> TableLister<'a> {
         ensures unasked { IfOk result (λ lister. lister.asked ≡ []) }
     {
         Ok(TableLister {
+            alloc,
             record,
             index: index_of(alloc, record.binaries.as_slice())?,
             asked: Listing::new(alloc),
@@ -48,6 +50,21 @@ impl<'a> TableLister<'a> {
         ensures { result.now ≡ self.now.asked }
     {
         self.asked.as_slice()
+    }
+}
+
+impl<'a> Clone for TableLister<'a> {
+    ghost use Rattle.std.specs.Prelude.{◌≡◌};
+
+    ghost is_clone = { λ original copy. copy ≡ original };
+
+    fn clone(&self) -> Result<TableLister<'a>, AllocError> {
+        Ok(TableLister {
+            alloc: self.alloc,
+            record: self.record,
+            index: index_of(self.alloc, self.record.binaries.as_slice())?,
+            asked: self.asked.clone()?,
+        })
     }
 }
 

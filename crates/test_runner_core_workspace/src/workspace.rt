@@ -32,6 +32,18 @@ impl Model for Workspace {
     ghost invariant = { λ w. refusal_of w.record ≡ None };
 }
 
+impl Clone for Workspace {
+    ghost use Rattle.std.specs.Prelude.{◌≡◌};
+
+    ghost is_clone = { λ original copy. copy ≡ original };
+
+    fn clone(&self) -> Result<Workspace, AllocError> {
+        Ok(Workspace {
+            record: self.record.clone()?,
+        })
+    }
+}
+
 impl Workspace {
     /// The workspace of `record`. An `Err` says why the record is no workspace, each reason being
     /// looked for in the whole record before the next, or that there was no memory, which says

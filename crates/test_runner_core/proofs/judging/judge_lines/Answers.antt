@@ -131,7 +131,7 @@ loop-fault-preserved g c =
     let before = c.loop-fault.invariant in
     let so_far = before.reads in
     let counted = before.counted in
-    rw c.look_ahead.ensures (record {
+    record {
       here =
           line_accepted c.args.session.now.plan c.args.lines.now (left c.args.log.now) (taken c.args.report.now) c.loop-fault.session c.judge_line.new.session c.loop-fault.lines c.next_line.new.lines (left c.loop-fault.log) (left c.next_line.new.log)
           (taken c.loop-fault.report) (taken c.next_line.new.report) (taken c.judge_line.new.report) (string_bytes c.loop-fault.text) (string_bytes c.next_line.new.text) (string_bytes c.judge_line.new.text) c.loop-fault.number
@@ -141,4 +141,4 @@ loop-fault-preserved g c =
       unfailed = c.in_ok-next_line.ensures.read_failures ∙ before.unfailed;
       unfailed_writes = c.in_ok-refusal.ensures.failures ∙ c.in_ok-next_line.ensures.write_failures ∙ before.unfailed_writes;
       counted = omega (arith, handed);
-    })
+    }

@@ -21,7 +21,4 @@ returns-clause-order c =
 pub returns-clause-same : goal.returns-clause-same
 returns-clause-same c =
     subst (IsPermutation c.args.tests.items) (sym c.from-2.ensures)
-    (IsPermutation-trans c.args.tests.items _ _ c.sort_by_priority.ensures (IsPermutation-trans _ _ _ c.sort_by_keys.ensures c.sort_unstable_by.ensures.permutation))
-
-pub returns-then-stand_in_order-3-clause-same : goal.returns-then-stand_in_order-3-clause-same
-returns-then-stand_in_order-3-clause-same c = subst (IsPermutation c.args.tests.items) (sym c.from-then-stand_in_order-3.ensures) (IsPermutation-trans c.args.tests.items _ _ c.sort_by_priority.ensures c.sort_by_keys.ensures)
+    (IsPermutation-trans c.args.tests.items _ _ c.sort_by_keys.ensures c.sort_unstable_by.ensures.permutation)

@@ -1,15 +1,12 @@
-use Rattle.std.proofs.Common.{◌≡◌, false, sym, ap, ◌∙◌, arith}
-use Rattle.std.specs.Ordering.{is_lt}
+use Rattle.std.proofs.Common.{rules, of_calls}
+use Rattle.std.proofs.lemmas.Fn.{always_returns_same}
+use Rattle.std.specs.Ordering.{is_le}
 use Rattle.test_runner_core_plan.specs.Order.{plan_cmp}
-use Rattle.test_runner_core_plan.proofs.Strict.{one_more}
-use Rattle.test_runner_core_plan.specs.declared.plan.PlanTest.{PlanTest}
+use Rattle.test_runner_core_plan.proofs.OneOrder.{plans_compare}
+use Rattle.test_runner_core_plan.proofs.Rising.{rises}
 use Rattle.test_runner_core_plan.proofs.order.stand_in_order.Goals as goal
 
-pub loop-place-preserved : goal.loop-place-preserved
-loop-place-preserved c =
-    let no_less = sym (ap is_lt c.compare.ensures) ∙ sym c.is_lt.ensures ∙ c.if-is_lt.false in
-    one_more (λ (x y : PlanTest). is_lt (plan_cmp y x) ≡ false) c.args.tests.now c.loop-place.place c.index-tests-place-in-loop-place.result c.index-tests-place.result
-    c.loop-place.invariant c.loop-place.auto.place c.loop-place-test.true c.index-tests-place-in-loop-place.is c.index-tests-place.is no_less
-
 pub returns : goal.returns
-returns c = λ _. λ k d low inside. c.loop-place.invariant k d (omega (arith, inside, c.loop-place-test.false))
+returns c =
+    rises plan_cmp plans_compare c.args.tests.now c.is_sorted_by.result
+    (c.is_sorted_by.ensures.cases (λ a b. is_le (plan_cmp a b)) (always_returns_same _ _ _ (λ a r f k. search (rules, of_calls))))

@@ -1,7 +1,7 @@
 use Rattle.std.proofs.Common.{◌≡◌, ℕ, false, slice_get, arith, inl, inr, sym, subst, ◌∙◌}
 use Rattle.std.proofs.lemmas.Bool.{cases_lt}
 use Rattle.std.specs.Option.{option_map_or}
-use Rattle.test_runner_core_session.proofs.Rising.{first_named, has, looked_at, none_named}
+use Rattle.test_runner_core_session.proofs.ByName.{first_named, has, looked_at, none_named}
 use Rattle.test_runner_core_session.proofs.places.first_place.Goals as goal
 
 pub loop-place-init : goal.loop-place-init

@@ -1,6 +1,6 @@
 use Rattle.std.proofs.Common.{◌≡◌, ◌<◌, ℕ, false, slice_get}
 use Rattle.std.specs.Option.{option_map_or}
-use Rattle.test_runner_core_session.proofs.Rising.{has}
+use Rattle.test_runner_core_session.proofs.ByName.{has}
 use Rattle.test_runner_core_session.proofs.places.first_place.Given as goal
 
 -- no test so far has the name

@@ -13,6 +13,6 @@ returns-in-Err c = record {
 pub loop-source-preserved : goal.loop-source-preserved
 loop-source-preserved c =
     subst (λ (config : VersionOnlyConfig). GivesConfig (map version_source_of (take (c.loop-source.source-index + 1) c.args.sources.now)) (Ok config))
-    (sym c.in_ok-config-in-Ok.ensures)
+    (sym c.in_ok-merge-in-Ok.ensures.merged)
     (walk_more c.args.sources.now c.loop-source.source-index c.source-item.result c.loop-source.config c.in-Ok.more
     c.loop-source-test.true c.source-item.is c.loop-source.invariant c.in-Ok.ensures)

@@ -1,17 +1,26 @@
-use Rattle.std.proofs.Common.{List, sym, ap, subst, ◌∙◌}
+use Rattle.std.proofs.Common.{◌≡◌, ◌≤◌, ℕ, List, length, map, ap, sym, subst, ◌∙◌, arith}
+use Rattle.indexmap.specs.IndexSet.{IndexSet}
 use Rattle.nextest_run_events_results.specs.declared.instance.OwnedTestInstanceId.{OwnedTestInstanceId}
-use Rattle.test_runner_core_session.proofs.Rising.{at_name}
-use Rattle.test_runner_core_session.specs.Names.{AreByName, IsFoundBy, place_of, names}
-use Rattle.test_runner_core_session.specs.declared.places.Named.{Named}
-use Rattle.test_runner_core_session.specs.declared.places.Order.{Order}
+use Rattle.nextest_run_events_results.specs.declared.instance.TestInstanceId.{TestInstanceId}
+use Rattle.std.specs.Prelude.{Option}
+use Rattle.test_runner_core_plan.specs.declared.plan.PlanTest.{PlanTest}
+use Rattle.test_runner_core_session.proofs.ByName.{length_names, stands}
+use Rattle.test_runner_core_session.specs.Names.{IsIndex, IsIndexIfMade, name_of, names, place_of}
 use Rattle.test_runner_core_session.proofs.places.Places.place.Goals as goal
+
+-- an index that has as many names as there are tests has theirs
+are_all : (index : List TestInstanceId) (tests : List PlanTest) → IsIndex index (names tests) → length tests ≤ length index → map name_of index ≡ names tests
+are_all index tests it many = it.1 (omega (arith, it.0, many, length_names tests))
 
 pub returns-then-is_at : goal.returns-then-is_at
 returns-then-is_at c =
     let it = c.self.inside in
     let id = c.args.test.binary_id.now in
     let name = c.args.test.test_name.now in
-    c.self.invariant.1 c.if-self.true id name it.last (sym (at_name id name it.tests.now it.last) ∙ sym c.is_at.ensures ∙ c.if-is_at.true)
+    let index = c.in-Some.index.keys in
+    let made : IsIndex index (names it.tests.now) = subst (λ (o : Option (IndexSet TestInstanceId _)). IsIndexIfMade o (names it.tests.now)) c.in-Some.is c.self.invariant in
+    let all = are_all index it.tests.now made (omega (arith, c.len.ensures.len, c.if-len-self.false)) in
+    stands index it.tests.now id name it.last c.len.ensures.unique all (sym c.is_at.ensures ∙ c.if-is_at.true)
     ∙ ap (λ (tests : List OwnedTestInstanceId). place_of tests id name) c.self.view_is
 
 pub returns-then-is_at-2 : goal.returns-then-is_at-2
@@ -19,20 +28,15 @@ returns-then-is_at-2 c =
     let it = c.self.inside in
     let id = c.args.test.binary_id.now in
     let name = c.args.test.test_name.now in
-    let next = c.saturating_add-next.result in
-    c.self.invariant.1 c.if-self.true id name next (sym (at_name id name it.tests.now next) ∙ sym c.is_at-then-self-2.ensures ∙ c.if-is_at-2.true)
+    let index = c.in-Some.index.keys in
+    let made : IsIndex index (names it.tests.now) = subst (λ (o : Option (IndexSet TestInstanceId _)). IsIndexIfMade o (names it.tests.now)) c.in-Some.is c.self.invariant in
+    let all = are_all index it.tests.now made (omega (arith, c.len.ensures.len, c.if-len-self.false)) in
+    stands index it.tests.now id name c.saturating_add-next.result c.len.ensures.unique all (sym c.is_at-then-self.ensures ∙ c.if-is_at-2.true)
     ∙ ap (λ (tests : List OwnedTestInstanceId). place_of tests id name) c.self.view_is
 
-pub place_by_name-requires : goal.place_by_name-requires
-place_by_name-requires c =
-    let tests = names c.self.inside.tests.now in
-    subst (λ (named : List Named). AreByName named tests) (sym c.as_slice.ensures.value)
-    (subst (λ (order : Order). IsFoundBy order tests) c.in-ByName.is c.self.invariant.0)
-
-pub returns-in-Some-find : goal.returns-in-Some-find
-returns-in-Some-find c =
-    let it = c.self.inside in
-    let id = c.args.test.binary_id.now in
-    let name = c.args.test.test_name.now in
-    c.self.invariant.1 c.if-self.true id name c.in-Some-find.place (sym (at_name id name it.tests.now c.in-Some-find.place) ∙ c.in-Some-find.ensures)
-    ∙ ap (λ (tests : List OwnedTestInstanceId). place_of tests id name) c.self.view_is
+pub place_among-requires : goal.place_among-requires
+place_among-requires c =
+    let tests = c.self.inside.tests.now in
+    let index = c.in-Some.index.keys in
+    let made : IsIndex index (names tests) = subst (λ (o : Option (IndexSet TestInstanceId _)). IsIndexIfMade o (names tests)) c.in-Some.is c.self.invariant in
+    are_all index tests made (omega (arith, c.len.ensures.len, c.if-len-self.false))

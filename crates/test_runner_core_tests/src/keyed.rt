@@ -1,0 +1,22 @@
+// Hashers that nobody can aim at.
+use std::hash::{BuildHasher, Hasher};
+use std::test::Fail;
+use test_runner_core_plan::TextsDigest;
+
+// What a hasher keyed by these texts says of no bytes.
+fn hash_by(texts: &[&str]) -> u64 {
+    let mut digest = TextsDigest::new();
+    for text in texts {
+        digest.add(text);
+    }
+    digest.into_state().build_hasher().finish()
+}
+
+#[test]
+fn lists_of_texts_with_one_concatenation_hash_differently(rt: HostRuntime) -> Result<(), Fail> {
+    let one = hash_by(&["ab", "c"]);
+    assert!(rt; one == hash_by(&["ab", "c"]));
+    assert!(rt; one != hash_by(&["a", "bc"]));
+    assert!(rt; one != hash_by(&["abc"]));
+    Ok(())
+}
