@@ -154,6 +154,7 @@ pub use nextest_config_resolution_warnings::Shown;
 pub use nextest_config_resolution_warnings::unknown_keys;
 pub use nextest_config_resolution_warnings::unknown_reserved_profiles;
 pub use nextest_config_resolution_warnings::warn_file;
+pub use nextest_config_resolution_warnings::warnings_of;
 pub use nextest_filtering_arguments::FiltersetKind;
 pub use nextest_filtering_filters::BinaryQuery;
 pub use nextest_filtering_filters::KnownGroups;

@@ -1,4 +1,5 @@
 // The platforms on which an override holds.
+ghost use Rattle.std.specs.Prelude.{◌≡◌};
 ghost use Rattle.toml.specs.View.{table_view, view};
 ghost use Rattle.nextest_config_elements_toml.specs.Paths.{Gives};
 ghost use Rattle.nextest_config_resolution_overrides.specs.Overrides.{platforms_in, platforms_of};
@@ -6,7 +7,7 @@ ghost use Rattle.nextest_config_resolution_overrides.specs.Overrides.{platforms_
 use nextest_config_elements_deserialize::optional_text;
 use nextest_config_elements_toml::{TableMembers, ValueError, refused};
 use nextest_text::Text;
-use std::alloc::Global;
+use std::alloc::{AllocError, Global};
 use toml::{Table, Value};
 
 /// `platform`: the platforms on which an override holds, as they are written. Each is `None` where
@@ -16,6 +17,17 @@ pub struct OverridePlatforms {
     pub host: Option<Text>,
     /// `target`: the spec of the platform for which they are built; a text alone is this one.
     pub target: Option<Text>,
+}
+
+impl Clone for OverridePlatforms {
+    ghost is_clone = { λ original copy. copy ≡ original };
+
+    fn clone(&self) -> Result<OverridePlatforms, AllocError> {
+        Ok(OverridePlatforms {
+            host: self.host.clone()?,
+            target: self.target.clone()?,
+        })
+    }
 }
 
 // One call drops it, whoever holds it.

@@ -11,6 +11,7 @@ pub mod Holding
 pub mod Keeping
 pub mod Kept
 pub mod Leasts
+pub mod Members
 pub mod Names
 pub mod OneProfile
 pub mod PutOn

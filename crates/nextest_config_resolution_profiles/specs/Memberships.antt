@@ -2,6 +2,7 @@
 use Rattle.std.specs.Prelude.{◌≡◌, ◌⊎◌, ℕ, Bool, true, false, ◌&&◌, List, All, Contains, codes, unwrap_or}
 use Rattle.std.specs.BTreeMap.{get}
 use Rattle.std.specs.Cmp.Lexicographic.{slice_cmp}
+use Rattle.std.specs.List.{IsDistinct}
 use Rattle.std.specs.Ordering.{nat_cmp, ordering_then}
 use Rattle.std.specs.Str.{bytes_eq}
 use Rattle.std.specs.declared.cmp.Ordering.{Ordering}
@@ -45,3 +46,13 @@ abbrev pub ArePrecomputed : {F S : Type 0} → (F → F → Test → Bool → Ty
 ArePrecomputed OnTest profile tests it = (test : Test)
     → IsOfHanded OnTest profile tests test (group_name it test)
     ⊎ (All (λ handed. have_one_name handed test ≡ false) tests × (group_name it test ≡ codes "@global"))
+
+-- what is kept of tests of which no two have one name is the group of each of them, and of any other
+-- test the global one
+pub record KeepsGroups {F S : Type 0} (OnTest : F → F → Test → Bool → Type 0) (profile : Evaluatable F S) (tests : List Test) (it : PrecomputedGroupMembership) : Type 0 where
+  pub handed : (test : Test) (group : TestGroup) → Contains tests test → IsGroupFor OnTest profile test group → group_name it test ≡ text_of group
+  pub others : (test : Test) → All (λ handed. have_one_name handed test ≡ false) tests → group_name it test ≡ codes "@global"
+
+abbrev pub PrecomputedMembers : {F : Type 0} → (F → F → Test → Bool → Type 0) → Type 0 → Type 0
+PrecomputedMembers {F} OnTest S = (profile : Evaluatable F S) (tests : List Test) (it : PrecomputedGroupMembership)
+    → IsDistinct have_one_name tests → ArePrecomputed OnTest profile tests it → KeepsGroups OnTest profile tests it

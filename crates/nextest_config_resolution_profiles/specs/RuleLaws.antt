@@ -2,6 +2,7 @@
 use Rattle.std.specs.Prelude.{◌≡◌, ℕ, ◌≤◌, Bool, List, [], length, Option, Ok, Contains}
 use Rattle.nextest_config_elements_identifiers.specs.declared.test_group.TestGroup.{TestGroup}
 use Rattle.nextest_config_elements_choices.specs.declared.run_mode.NextestRunMode.{NextestRunMode}
+use Rattle.nextest_config_resolution_load.specs.Laws.{IsFound}
 use Rattle.nextest_config_resolution_load.specs.Load.{IsFilterBy, IsSpecBy}
 use Rattle.nextest_config_resolution_profiles.specs.Config.{IsConfig, IsEarly}
 use Rattle.nextest_config_resolution_profiles.specs.Early.{Early}
@@ -58,6 +59,13 @@ NoRules {F} {T} OnTest S Tells = (profile : Evaluatable F S) (mode : NextestRunM
 abbrev pub MoreEnableNoFewer : {F : Type 0} → (F → F → Test → Bool → Type 0) → Type 0 → Type 0
 MoreEnableNoFewer {F} OnTest S = (profile : Evaluatable F S) (some more : List Test) (id : List ℕ)
     → ((test : Test) → Contains some test → Contains more test) → IsEnabled OnTest profile some id → IsEnabled OnTest profile more id
+
+-- an enabled setup script is a defined one, by each profile of a configuration and on each platforms
+abbrev pub EnabledIsDefined : {F S Facts : Type 0} → IsFilterBy F → IsSpecBy S → (List ℕ → Type 0) → (S → Facts → Option Bool) → (F → F → Test → Bool → Type 0) → Type 0
+EnabledIsDefined {F} {S} {Facts} Is IsSpec IsTooDeep value_on OnTest =
+    (features : FeatureSet) (root : List ℕ) (sources : List ConfigSource) (config : Whole F S) (name : List ℕ) (early : Early F S) (host target : Facts) (profile : Evaluatable F S) (tests : List Test) (id : List ℕ)
+    → IsConfig Is IsSpec IsTooDeep features root sources (Ok config) → IsEarly config name early → IsPutOn value_on host target early profile
+    → IsEnabled OnTest profile tests id → IsFound profile.scripts.setup id
 
 -- each test has settings, by each profile of a configuration and on each platforms, and so it has a
 -- group

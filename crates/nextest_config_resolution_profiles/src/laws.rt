@@ -5,7 +5,8 @@ ghost use Rattle.nextest_config_resolution_profiles.specs.BuiltInLaws.{Accepted,
 ghost use Rattle.nextest_config_resolution_profiles.specs.Kept.{KeptProfile};
 ghost use Rattle.nextest_config_resolution_profiles.specs.Languages.{IsFilterIn};
 ghost use Rattle.nextest_config_resolution_profiles.specs.Laws.{DefaultIsRead, NeverFallsBack, NothingIsUndefined, OneProfile, RulesAreRead, SameChain, ScriptRulesAreRead, SomeChain, SomeConfig};
-ghost use Rattle.nextest_config_resolution_profiles.specs.RuleLaws.{EarlyDefault, GroupOfSettings, MoreEnableNoFewer, NoRules, NumberedRows, OneHeld, OneScriptsHeld, SameSettingsFor, SameSourcesFor, SomeGroupFor, SomeSettingsFor};
+ghost use Rattle.nextest_config_resolution_profiles.specs.Memberships.{PrecomputedMembers};
+ghost use Rattle.nextest_config_resolution_profiles.specs.RuleLaws.{EarlyDefault, EnabledIsDefined, GroupOfSettings, MoreEnableNoFewer, NoRules, NumberedRows, OneHeld, OneScriptsHeld, SameSettingsFor, SameSourcesFor, SomeGroupFor, SomeSettingsFor};
 
 use crate::default_config::DEFAULT_CONFIG;
 use nextest_config_resolution_filters::{Filters, Specs};
@@ -52,6 +53,12 @@ pub fn rules_are_read<F: Filters, S: Specs>()
 pub fn nothing_is_undefined<F: Filters, S: Specs>()
     ensures { (cx : F.Cx) → NothingIsUndefined
         (IsFilterIn F.is_parsed F.has_runtime_leaves cx) S.is_parsed F.is_too_deep }
+{}
+
+/// An enabled setup script is one that the configuration defines, whichever tests it is enabled for.
+pub fn enabled_is_defined<F: Filters, S: Specs>()
+    ensures { (cx : F.Cx) → EnabledIsDefined (IsFilterIn F.is_parsed F.has_runtime_leaves cx)
+        S.is_parsed F.is_too_deep S.value_on F.on_test }
 {}
 
 /// Profiles of other names change nothing: two lists of sources whose files agree but in profiles
@@ -136,6 +143,12 @@ pub fn some_settings<'p, F: Filters, S: Specs, T: TrackSource<'p>>()
 /// The group of a test is the one that its settings have.
 pub fn group_of_settings<'p, F: Filters, S: Specs, T: TrackSource<'p>>()
     ensures { GroupOfSettings F.on_test S T.tells }
+{}
+
+/// Memberships that were found before, for tests of which no two have one name in binaries of one
+/// id, tell of each of these tests the group that it has, and of any other test the global one.
+pub fn precomputed_members<F: Filters, S: Specs>()
+    ensures { PrecomputedMembers F.on_test S }
 {}
 
 /// A profile without rules has the settings of its chain, whatever the test.

@@ -1,4 +1,5 @@
 pub mod Fronts
+mod Lines
 mod Named
 mod Rules
 mod Sections

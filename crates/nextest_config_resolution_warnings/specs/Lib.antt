@@ -1,9 +1,10 @@
+pub mod Kept
 pub mod Keys
 pub mod Places
 pub mod Reserved
 pub mod Scripts
 pub mod Shown
 pub mod Steps
-pub mod Warn
 pub mod Unknown
+pub mod Warn
 pub mod Warnings

@@ -1,46 +1,66 @@
 // Warnings that are kept, to be told later.
-ghost use Rattle.std.specs.Prelude.{◌≡◌, ◌∷◌, [], OnErr, OnOk};
-ghost use Rattle.nextest_config_resolution_warnings.specs.Warn.{Keeps, Warns, WarnsPrefix};
+ghost use Rattle.std.specs.Prelude.{◌≡◌, ◌++◌, [], OnErr, OnOk};
+ghost use Rattle.toml.specs.View.{table_view};
+ghost use Rattle.nextest_config_resolution_warnings.specs.Warn.{Warns, WarnsPrefix, told_of, warnings_of};
 
 use crate::config_warning::ConfigWarning;
+use crate::file_warnings::warnings_of;
+use crate::warn::tell_all;
 use crate::warnings::ConfigWarnings;
-use nextest_config_elements_toml::KeyPath;
-use nextest_text::{Listing, Text};
+use nextest_config_resolution_sources::ConfigSource;
+use nextest_text::Listing;
 use std::alloc::{AllocError, Global};
 use std::marker::Model;
+use toml::Table;
 
-/// Each warning that was told, in order, to be told again. In a clause it is the list of them.
-#[derive(Debug, Drop)]
-pub struct KeptWarnings {
+/// What is told of some files, in order, to be told later. In a clause it is the list of the
+/// warnings, each with the source of its file.
+#[derive(Drop)]
+pub struct KeptWarnings<'s> {
     alloc: Global,
-    warnings: Listing<ConfigWarning>,
+    files: Vec<FileWarnings<'s>>,
 }
 
-impl Model for KeptWarnings {
+// What is told of the file of a source, with the source, lent.
+#[derive(Drop)]
+pub(crate) struct FileWarnings<'s> {
+    pub(crate) source: &'s ConfigSource,
+    pub(crate) warnings: Listing<ConfigWarning>,
+}
+
+impl<'s> Model for KeptWarnings<'s> {
+    ghost use Rattle.std.specs.List.{flat_map};
     ghost use Rattle.std.specs.Prelude.{List};
+    ghost use Rattle.nextest_config_resolution_sources.specs.declared.source.ConfigSource.{ConfigSource};
+    ghost use Rattle.nextest_config_resolution_warnings.specs.Kept.{told_in};
     ghost use Rattle.nextest_config_resolution_warnings.specs.declared.config_warning.ConfigWarning.{ConfigWarning};
 
-    ghost Value = { List ConfigWarning };
+    ghost Value = { List (ConfigSource × ConfigWarning) };
 
-    ghost view = { λ it. it.warnings };
+    ghost view = { λ it. flat_map told_in it.files.items };
 }
 
-impl KeptWarnings {
-    /// Nothing was told, which takes no memory.
+impl<'s> KeptWarnings<'s> {
+    /// Nothing is kept, which takes no memory.
     pub fn new(alloc: Global) -> Self
         ensures { result ≡ [] }
     {
         KeptWarnings {
             alloc,
-            warnings: Listing::new(alloc),
+            files: Vec::new(alloc),
         }
     }
 
-    /// The warnings.
-    pub fn warnings(&self) -> &[ConfigWarning]
-        ensures { result.now ≡ self.now }
+    /// Keeps what is told of `file`, the configuration of `source`, as `warnings_of` tells it,
+    /// behind what was kept. It fails only on allocation, and then what was kept stays.
+    pub fn keep(&mut self, source: &'s ConfigSource, file: &Table) -> Result<(), AllocError>
+        ensures ok { OnOk result
+            (self.new ≡ self.old ++ told_of source.now (warnings_of (table_view file.now))) }
+        ensures err { OnErr result (self.new ≡ self.old) }
     {
-        self.warnings.as_slice()
+        let warnings = warnings_of(self.alloc, file)?;
+        self.files.push(FileWarnings { source, warnings })?;
+        Ok(())
     }
 
     /// Tells all of these, in order. It fails only on allocation, and then a front of them was
@@ -49,83 +69,9 @@ impl KeptWarnings {
         ensures ok { OnOk result (Warns W.has_warned warnings.old warnings.new self.now) }
         ensures err { OnErr result (WarnsPrefix W.has_warned warnings.old warnings.new self.now) }
     {
-        tell_each(warnings, self.warnings.as_slice())
-    }
-}
-
-// Tells each of some warnings.
-fn tell_each<W: ConfigWarnings>(warnings: &mut W, all: &[ConfigWarning]) -> Result<(), AllocError>
-    ensures ok { OnOk result (Warns W.has_warned warnings.old warnings.new all.now) }
-    ensures err { OnErr result (WarnsPrefix W.has_warned warnings.old warnings.new all.now) }
-{
-    for warning in all {
-        tell_one(warnings, warning)?;
-    }
-    Ok(())
-}
-
-// Tells a warning.
-fn tell_one<W: ConfigWarnings>(warnings: &mut W, warning: &ConfigWarning) -> Result<(), AllocError>
-    ensures ok { OnOk result
-        (Warns W.has_warned warnings.old warnings.new (warning.now ∷ [])) }
-    ensures err { OnErr result (Keeps W.has_warned warnings.old warnings.new) }
-{
-    match warning {
-        ConfigWarning::UnknownKey { path, key } => warnings.unknown_config_key(path.as_str(), key),
-        ConfigWarning::UnknownReservedProfile { path, profile } => {
-            warnings.unknown_reserved_profile(path.as_str(), profile.as_str())
+        for file in &self.files {
+            tell_all(warnings, file.source, file.warnings.as_slice())?;
         }
-        ConfigWarning::DeprecatedScriptConfig { path } => {
-            warnings.deprecated_script_config(path.as_str())
-        }
-        ConfigWarning::EmptyScriptSections {
-            path,
-            profile,
-            count,
-        } => warnings.empty_script_sections(path.as_str(), profile.as_str(), *count),
-    }
-}
-
-impl ConfigWarnings for KeptWarnings {
-    ghost use Rattle.std.specs.Prelude.{◌≡◌};
-
-    ghost has_warned = { λ kept told. kept ≡ told };
-
-    fn unknown_config_key(&mut self, path: &str, key: &KeyPath) -> Result<(), AllocError> {
-        let path = Text::from_str(self.alloc, path)?;
-        let key = key.clone()?;
-        self.warnings.push(ConfigWarning::UnknownKey { path, key })?;
-        Ok(())
-    }
-
-    fn unknown_reserved_profile(&mut self, path: &str, profile: &str) -> Result<(), AllocError> {
-        let path = Text::from_str(self.alloc, path)?;
-        let profile = Text::from_str(self.alloc, profile)?;
-        self.warnings
-            .push(ConfigWarning::UnknownReservedProfile { path, profile })?;
-        Ok(())
-    }
-
-    fn deprecated_script_config(&mut self, path: &str) -> Result<(), AllocError> {
-        let path = Text::from_str(self.alloc, path)?;
-        self.warnings
-            .push(ConfigWarning::DeprecatedScriptConfig { path })?;
-        Ok(())
-    }
-
-    fn empty_script_sections(
-        &mut self,
-        path: &str,
-        profile: &str,
-        count: usize,
-    ) -> Result<(), AllocError> {
-        let path = Text::from_str(self.alloc, path)?;
-        let profile = Text::from_str(self.alloc, profile)?;
-        self.warnings.push(ConfigWarning::EmptyScriptSections {
-            path,
-            profile,
-            count,
-        })?;
         Ok(())
     }
 }

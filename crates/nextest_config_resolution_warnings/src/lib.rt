@@ -4,6 +4,7 @@
 
 mod config_warning;
 mod default_warnings;
+mod file_warnings;
 mod kept_warnings;
 mod keys;
 mod place;
@@ -19,6 +20,7 @@ mod warnings;
 
 pub use config_warning::ConfigWarning;
 pub use default_warnings::DefaultConfigWarnings;
+pub use file_warnings::warnings_of;
 pub use kept_warnings::KeptWarnings;
 pub use place::Place;
 pub use reserved::unknown_reserved_profiles;

@@ -1,6 +1,6 @@
 // The texts of warnings.
 ghost use Rattle.std.specs.Prelude.{◌≡◌, IfOk};
-ghost use Rattle.nextest_config_resolution_warnings.specs.Warnings.{text_of};
+ghost use Rattle.nextest_config_resolution_warnings.specs.Warnings.{text_at};
 ghost use Rattle.nextest_config_resolution_warnings.specs.declared.config_warning.ConfigWarning.TheVariants.{UnknownKey, UnknownReservedProfile, DeprecatedScriptConfig, EmptyScriptSections};
 
 use crate::shown::{Shown, ShownKeys};
@@ -10,7 +10,7 @@ use std::alloc::{AllocError, Global};
 
 // That no key of the configuration is this one.
 pub(crate) fn unknown_key(alloc: Global, path: &str, key: &KeyPath) -> Result<Text, AllocError>
-    ensures { IfOk result (λ text. text ≡ text_of (UnknownKey path.now key.now)) }
+    ensures { IfOk result (λ text. text ≡ text_at path.now (UnknownKey key.now)) }
 {
     let (key, path) = (ShownKeys(key.keys.as_slice()), Shown(path));
     Ok(Text::from(format!(in alloc; "unknown key {key} in {path}")?))
@@ -22,7 +22,7 @@ pub(crate) fn unknown_reserved_profile(
     path: &str,
     profile: &str,
 ) -> Result<Text, AllocError>
-    ensures { IfOk result (λ text. text ≡ text_of (UnknownReservedProfile path.now profile.now)) }
+    ensures { IfOk result (λ text. text ≡ text_at path.now (UnknownReservedProfile profile.now)) }
 {
     let (profile, path) = (Shown(profile), Shown(path));
     Ok(Text::from(format!(in alloc; "unknown reserved profile {profile} in {path}")?))
@@ -30,7 +30,7 @@ pub(crate) fn unknown_reserved_profile(
 
 // That setup scripts stand in the table that held them before.
 pub(crate) fn deprecated_script_config(alloc: Global, path: &str) -> Result<Text, AllocError>
-    ensures { IfOk result (λ text. text ≡ text_of (DeprecatedScriptConfig path.now)) }
+    ensures { IfOk result (λ text. text ≡ text_at path.now DeprecatedScriptConfig) }
 {
     let path = Shown(path);
     Ok(Text::from(format!(in alloc; "deprecated script table in {path}")?))
@@ -44,7 +44,7 @@ pub(crate) fn empty_script_sections(
     count: usize,
 ) -> Result<Text, AllocError>
     ensures { IfOk result
-        (λ text. text ≡ text_of (EmptyScriptSections path.now profile.now count)) }
+        (λ text. text ≡ text_at path.now (EmptyScriptSections profile.now count)) }
 {
     let (profile, path) = (Shown(profile), Shown(path));
     let text = format!(in alloc; "empty script sections {count} in profile {profile} in {path}")?;

@@ -9,7 +9,7 @@ use Rattle.std.proofs.Math.Seq.{take-append-add, drop-append-add}
 use Rattle.std.proofs.lemmas.List.{take-append-drop, take_all, length-take}
 use Rattle.test_runner_core_log_reader.specs.declared.limits.TheConstants.{FIRST_LINE_LIMIT, LOG_LIMIT}
 use Rattle.test_runner_core_log_reader.specs.Feeds.{IsPlain, IsFirstFeed, before_feed, behind_feed}
-use Rattle.test_runner_core_log_reader.specs.Cursor.{Cursor, bytes_received}
+use Rattle.test_runner_core_log_reader.specs.Cursor.{Cursor, IsNear, bytes_received}
 use Rattle.test_runner_core_log_reader.specs.Calls.{Cut, GetsPlain, KeepsAhead, PartsAtFirst, WaitsMore}
 use Rattle.test_runner_core_log_reader.proofs.Items.{is_no_feed}
 use Rattle.test_runner_core_log_reader.proofs.Left.{gives_some}
@@ -22,11 +22,11 @@ at_plain (byte ∷ plain) more h =
     ∙ ap (λ (n : ℕ). 1 + n) (at_plain plain more h.1) ∙ omega arith
 
 -- plain bytes stand before the first line feed
-before_plain : (plain more : List ℕ) → IsPlain plain → before_feed (plain ++ more) ≡ plain ++ before_feed more
+pub before_plain : (plain more : List ℕ) → IsPlain plain → before_feed (plain ++ more) ≡ plain ++ before_feed more
 before_plain plain more h =
     ap (λ (n : ℕ). take n (plain ++ more)) (at_plain plain more h) ∙ take-append-add plain more (position_or_len (λ byte. eqb byte 10) more)
 
-behind_plain : (plain more : List ℕ) → IsPlain plain → behind_feed (plain ++ more) ≡ behind_feed more
+pub behind_plain : (plain more : List ℕ) → IsPlain plain → behind_feed (plain ++ more) ≡ behind_feed more
 behind_plain plain more h =
     let n = position_or_len (λ byte. eqb byte 10) more in
     ap (λ (m : ℕ). drop m (plain ++ more)) (ap (λ (m : ℕ). m + 1) (at_plain plain more h) ∙ (let e : length plain + n + 1 ≡ length plain + (n + 1) = omega arith in e))
@@ -40,7 +40,7 @@ pub behind_line : (line more : List ℕ) → IsPlain line → behind_feed (line 
 behind_line line more plain = behind_plain line (10 ∷ more) plain
 
 -- bytes are plain, or a plain line, its line feed and what follows
-split_feed : (bytes : List ℕ) → IsPlain bytes ⊎ ((line : List ℕ) × ((more : List ℕ) × (IsPlain line × (bytes ≡ line ++ 10 ∷ more))))
+pub split_feed : (bytes : List ℕ) → IsPlain bytes ⊎ ((line : List ℕ) × ((more : List ℕ) × (IsPlain line × (bytes ≡ line ++ 10 ∷ more))))
 split_feed [] = inl tt
 split_feed (byte ∷ rest) = by_test (eqb_tells byte 10) (split_feed rest)
   where
@@ -85,17 +85,19 @@ abbrev pub beginning : Cursor
 beginning = record { line = []; waiting = []; handed = 0 }
 
 -- what is ahead is the whole stream, each call brought a byte and none failed; there is no call
--- past the limit
+-- past the limit, and each but the last brought some of the first line
 pub record ReadingFirst (stream : Option (List ℕ)) (first_calls first_failures : ℕ) (lines : Cursor) (rest : Option (List ℕ)) (calls failures : ℕ) : Type 0 where
   pub ahead : KeepsAhead beginning stream lines rest
   pub handed : lines.handed ≡ 0
+  pub near : IsNear lines
   pub grown : calls ≤ first_calls + length lines.waiting
+  pub first : calls ≤ first_calls + length (before_feed lines.waiting) + 1
   pub bounded : calls ≤ first_calls + FIRST_LINE_LIMIT + 1
   pub limit : bytes_received lines ≤ LOG_LIMIT + 1
   pub unfailed : failures ≡ first_failures
 
 -- known bytes stay known
-stays_known : (old new : Cursor) (left : List ℕ) → KeepsAhead old (Some left) new None → ⊥
+pub stays_known : (old new : Cursor) (left : List ℕ) → KeepsAhead old (Some left) new None → ⊥
 stays_known old new left ahead =
     let few = ahead [] tt in
     let more = ahead (0 ∷ []) tt in

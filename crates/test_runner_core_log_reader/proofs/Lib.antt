@@ -7,3 +7,5 @@ pub mod Telling
 pub mod Reading
 pub mod FirstLine
 pub mod WholeLines
+pub mod Near
+pub mod FirstReads

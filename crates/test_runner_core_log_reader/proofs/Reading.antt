@@ -13,16 +13,18 @@ use Rattle.test_runner_core_log_reader.specs.declared.next.Scan.TheVariants as s
 use Rattle.test_runner_core_log_reader.specs.Feeds.{IsPlain}
 use Rattle.test_runner_core_streams.specs.Left.{MayGive}
 use Rattle.test_runner_core_log_reader.specs.Items.{Line, Refused, line_fault, items}
-use Rattle.test_runner_core_log_reader.specs.Cursor.{Cursor, bytes_received, items_ahead, tells_next}
+use Rattle.test_runner_core_log_reader.specs.Cursor.{Cursor, IsNear, bytes_received, items_ahead, tells_next}
 use Rattle.test_runner_core_log_reader.specs.Calls.{KeepsAhead, Hands, Scanned, WaitsMore, idle_reads, end_of}
 use Rattle.test_runner_core_log_reader.proofs.Left.{gives_none}
 use Rattle.test_runner_core_log_reader.proofs.Items.{items_line, items_end}
 
--- what is ahead is what was ahead, each call brought a byte, none failed, and the log's limit
--- holds; there was no call where the bytes that waited told what is next
+-- what is ahead is what was ahead, few bytes wait behind the first line feed, each call brought a
+-- byte, none failed, and the log's limit holds; there was no call where the bytes that waited told
+-- what is next
 pub record Reading (old : Cursor) (left : Option (List ℕ)) (old_calls old_failures : ℕ) (new : Cursor) (rest : Option (List ℕ)) (calls failures : ℕ) : Type 0 where
   pub ahead : KeepsAhead old left new rest
   pub handed : new.handed ≡ old.handed
+  pub near : IsNear new
   pub grown : calls + bytes_received old ≤ old_calls + bytes_received new
   pub limit : bytes_received new ≤ LOG_LIMIT + 1
   pub unfailed : failures ≡ old_failures

@@ -1,6 +1,7 @@
 -- What a call of a reader of lines did.
 use Rattle.std.specs.Prelude.{◌≡◌, ℕ, ◌+◌, ◌<◌, ◌≤◌, Bool, true, length, List, [], ◌∷◌, ◌++◌, Option, None, Some, Result, Ok, Err, take}
 use Rattle.std.specs.Io.KnownBytes.{Consumes}
+use Rattle.test_runner_core_streams.specs.declared.traits.TheConstants.{READ_LIMIT}
 use Rattle.test_runner_core_streams.specs.Left.{OfBytes, OfSomeBytes, WhateverFollows}
 use Rattle.test_runner_core_log_reader.specs.Items.{Line, Refused, line_fault}
 use Rattle.test_runner_core_log_reader.specs.Cursor.{Cursor, bytes_received, items_ahead, Unmoved}
@@ -64,6 +65,11 @@ IsUnread (Err fault) before after = ⊥
 -- a reader gave bytes among which is no line feed
 abbrev pub GetsPlain : Option (List ℕ) → Option (List ℕ) → Type 0
 GetsPlain left rest = (got : List ℕ) × Consumes left rest got × IsPlain got
+
+-- a reader gave bytes of which fewer stand behind the first line feed than it is asked for at most
+-- in one call
+abbrev pub GetsNear : Option (List ℕ) → Option (List ℕ) → Type 0
+GetsNear left rest = (got : List ℕ) × Consumes left rest got × (length (behind_feed got) < READ_LIMIT)
 
 -- the reader's failed calls rose by one exactly where its failure is answered, and then its last
 -- call failed

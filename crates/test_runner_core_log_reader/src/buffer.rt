@@ -6,10 +6,7 @@ ghost use Rattle.test_runner_core_streams.specs.Streams.{read_fails, failures_af
 
 use std::alloc::AllocError;
 use std::io;
-use test_runner_core_streams::LogReader;
-
-// How long the buffer is at first.
-const CHUNK: usize = 65_536;
+use test_runner_core_streams::{LogReader, READ_LIMIT};
 
 // By how much a long buffer is made longer at once: what is added is written before it is read into,
 // and takes memory from then on.
@@ -55,7 +52,7 @@ pub(super) fn shorten(buffer: &mut Vec<u8>, start: usize, end: usize)
 
 // Makes room behind the bytes from `start` to the end of a full buffer: at the front where they fit
 // before themselves, so that no byte is moved more often than others are read; else the buffer is
-// made longer, twice as long where it is short.
+// made longer: at first as long as a read is at most, then twice as long where it is short.
 fn make_room(buffer: &mut Vec<u8>, start: usize) -> Result<usize, AllocError>
     requires { start ≤ vec_len buffer.old }
     ensures bytes { IfOk result (λ begin. slice_range buffer.new.items begin (begin
@@ -71,7 +68,7 @@ fn make_room(buffer: &mut Vec<u8>, start: usize) -> Result<usize, AllocError>
         front[..waiting].copy_from_slice(back);
         return Ok(0);
     }
-    let longer = length + length.clamp(CHUNK, STEP);
+    let longer = length + length.clamp(READ_LIMIT, STEP);
     buffer.resize(longer, 0)?;
     Ok(start)
 }
@@ -86,6 +83,7 @@ pub(super) fn read_behind<R: LogReader>(
     requires calls_fit { R.calls reader.old < 2 ^ 63 }
     requires failures_fit { R.failures reader.old < 2 ^ 63 }
     requires inside { from + most ≤ vec_len buffer.old }
+    requires asked { most ≤ READ_LIMIT }
     ensures length { vec_len buffer.new ≡ vec_len buffer.old }
     ensures kept { take from buffer.new.items ≡ take from buffer.old.items }
     ensures bound { IfOk result (λ count. count ≤ most) }

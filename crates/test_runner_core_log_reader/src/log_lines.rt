@@ -3,9 +3,9 @@ ghost use Rattle.std.specs.Prelude.{◌≡◌, ◌+◌, ◌-◌, ◌^◌, ◌<�
 ghost use Rattle.std.specs.Io.KnownBytes.{IsAtEnd};
 ghost use Rattle.test_runner_core_log_reader.specs.Items.{line_fault};
 ghost use Rattle.test_runner_core_log_reader.specs.Limits.{first_line_reads, log_reads};
-ghost use Rattle.test_runner_core_log_reader.specs.Cursor.{Unmoved, bytes_received, tells_next};
-ghost use Rattle.test_runner_core_log_reader.specs.Feeds.{IsFirstFeed, IsPlain};
-ghost use Rattle.test_runner_core_log_reader.specs.Calls.{Cut, GetsPlain, Hands, HandsAhead, HandsBytes, IsUnread, KeepsAhead, PartsAtFirst, Scanned, ScannedFirst, TellsFailure, WaitsMore, end_of, idle_reads, scan_of as scan_told};
+ghost use Rattle.test_runner_core_log_reader.specs.Cursor.{IsNear, Unmoved, bytes_received, tells_next};
+ghost use Rattle.test_runner_core_log_reader.specs.Feeds.{IsFirstFeed, IsPlain, before_feed};
+ghost use Rattle.test_runner_core_log_reader.specs.Calls.{Cut, GetsNear, GetsPlain, Hands, HandsAhead, HandsBytes, IsUnread, KeepsAhead, PartsAtFirst, Scanned, ScannedFirst, TellsFailure, WaitsMore, end_of, idle_reads, scan_of as scan_told};
 
 use super::buffer::{LONGEST, read_behind, shorten, with_room};
 use super::fault::{LineFault, LogFault, fault_of};
@@ -14,10 +14,11 @@ use super::next::{Next, Scan};
 use memchr::memchr;
 use std::alloc::Global;
 use std::marker::Model;
-use test_runner_core_streams::LogReader;
+use test_runner_core_streams::{LogReader, READ_LIMIT};
 
 /// Cuts the bytes of a reader into lines. The reader is passed to each call; it has to be the same
-/// one.
+/// one. It is asked for more only where no line feed waits, and for at most `READ_LIMIT` bytes at
+/// once, so fewer than that many bytes are taken past the end of the line that is at hand.
 #[derive(Drop)]
 pub struct LogLines {
     buffer: Vec<u8>,
@@ -62,7 +63,9 @@ impl LogLines {
     /// up to the first line feed or the stream's end, off the front, and `line` lends it until the
     /// first call of `next`; its memory is given back as the log is read on. `None` where it has
     /// more than `FIRST_LINE_LIMIT` bytes. Where the reader fails or there is no memory for the
-    /// line, what was read is lost; no line feed was among it.
+    /// line, what was read is lost; no line feed was among it. Fewer than `READ_LIMIT` bytes are
+    /// taken past the first line feed, and each call of the reader but the last brings some of the
+    /// first line.
     pub fn behind_first_line<R: LogReader>(
         alloc: Global,
         reader: &mut R,
@@ -73,7 +76,12 @@ impl LogLines {
             (λ lines. PartsAtFirst (R.left reader.old) lines (R.left reader.new)) }
         ensures fresh { IfOk result (λ lines. IfSome lines (λ it. it.handed ≡ 0)) }
         ensures cut { OnErr result (GetsPlain (R.left reader.old) (R.left reader.new)) }
+        ensures near { GetsNear (R.left reader.old) (R.left reader.new) }
+        ensures few { IfOk result
+            (λ lines. IfSome lines (λ it. length it.waiting < READ_LIMIT)) }
         ensures reads { R.calls reader.new ≤ R.calls reader.old + first_line_reads }
+        ensures reads_known { IfSome (R.left reader.old) (λ bytes.
+            R.calls reader.new ≤ R.calls reader.old + length (before_feed bytes) + 1) }
         ensures failures { TellsFailure result (R.failures reader.old) (R.failures reader.new)
             (R.last_failed reader.new) }
     {
@@ -100,13 +108,6 @@ impl LogLines {
         &self.buffer[self.line_start..self.line_end]
     }
 
-    /// The bytes that were read and not handed out yet.
-    pub fn waiting(&self) -> &[u8]
-        ensures { result.now ≡ self.now.waiting }
-    {
-        &self.buffer[self.start..self.end]
-    }
-
     /// Whether the next call of `next` needs no read: the bytes that were read tell a line, or that
     /// one or the log is too long. It forgets the line before.
     pub fn is_waiting(&mut self) -> bool
@@ -123,7 +124,8 @@ impl LogLines {
     /// `true`. `Line` hands it out, and `line` lends it until the next call. A refusal or the end
     /// stays ahead, and so does all else where the reader fails or there is no memory for the line;
     /// no whole line was read then. The reader is never asked past the first byte that is over the
-    /// log's limit.
+    /// log's limit. Fewer than `READ_LIMIT` bytes wait behind the line that it hands out or, where
+    /// it hands out none, behind the first line feed.
     pub fn next<R: LogReader>(&mut self, reader: &mut R) -> Result<Next, LogFault>
         requires calls_fit { R.calls reader.old + 2 ^ 31 ≤ 2 ^ 63 }
         requires failures_fit { R.failures reader.old < 2 ^ 63 }
@@ -137,6 +139,8 @@ impl LogLines {
         ensures unread { tells_next self.old ≡ true
             → IsUnread result (R.calls reader.old) (R.calls reader.new) }
         ensures cut { OnErr result (IsPlain self.new.waiting) }
+        ensures near { IsNear self.new }
+        ensures few { result ≡ Ok Next.Line → length self.new.waiting < READ_LIMIT }
         ensures failures { TellsFailure result (R.failures reader.old) (R.failures reader.new)
             (R.last_failed reader.new) }
     {
@@ -242,9 +246,11 @@ impl LogLines {
         self.scanned = self.end;
     }
 
-    // One read behind the bytes that wait. Takes memory where the buffer is full.
+    // One read behind the bytes that wait, where no line feed is among them. Takes memory where the
+    // buffer is full.
     fn fill<R: LogReader>(&mut self, reader: &mut R) -> Result<usize, LogFault>
         requires more { bytes_received self.old ≤ LOG_LIMIT }
+        requires plain { IsPlain self.old.waiting }
         requires calls_fit { R.calls reader.old < 2 ^ 63 }
         requires failures_fit { R.failures reader.old < 2 ^ 63 }
         ensures ahead { KeepsAhead self.old (R.left reader.old) self.new (R.left reader.new) }
@@ -252,6 +258,7 @@ impl LogLines {
         ensures ok { IfOk result (WaitsMore self.old self.new) }
         ensures err { OnErr result (WaitsMore self.old self.new 0) }
         ensures limit { bytes_received self.new ≤ log_reads }
+        ensures near { IsNear self.new }
         ensures end { IfOk result (λ count. count ≡ 0 → IsAtEnd (R.left reader.new)) }
         ensures called { R.calls reader.new ≤ R.calls reader.old + 1 }
         ensures failures { TellsFailure result (R.failures reader.old) (R.failures reader.new)
@@ -264,7 +271,8 @@ impl LogLines {
         self.end = begin + (self.end - self.start);
         self.start = begin;
         let unread = LOG_LIMIT + 1 - self.handed - (self.end - begin);
-        let most = unread.min(self.buffer.len() - self.end);
+        let room = self.buffer.len() - self.end;
+        let most = unread.min(room).min(READ_LIMIT);
         let count = read_behind(reader, &mut self.buffer, self.end, most)?;
         self.end += count;
         Ok(count)

@@ -106,7 +106,7 @@ impl<'a> LogReader for MemoryReader<'a> {
 
     /// Moves the smallest of a piece, what is left and the buffer's room. It fails as
     /// `ErrorKind::Other` at the chosen call, where it moves nothing and leaves the buffer alone,
-    /// and at no other.
+    /// and at no other. It may be asked for any number of bytes.
     fn read(&mut self, buffer: &mut [u8]) -> io::Result<usize>
         requires calls_fit { self.old.calls < 2 ^ 63 }
         requires failures_fit { self.old.failures < 2 ^ 63 }

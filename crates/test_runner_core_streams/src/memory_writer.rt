@@ -43,6 +43,23 @@ impl Model for MemoryWriter {
     ghost invariant = { λ w. HasItsRoom w.piece (length w.written.items) w.room (vec_capacity w.written) };
 }
 
+/// A clone has memory for all its room too.
+impl Clone for MemoryWriter {
+    ghost is_clone = { λ original copy. copy ≡ original };
+
+    fn clone(&self) -> Result<Self, AllocError> {
+        let mut written = self.written.clone()?;
+        written.reserve_exact(self.room - written.len())?;
+        Ok(MemoryWriter {
+            written,
+            room: self.room,
+            piece: self.piece,
+            fails_after: self.fails_after,
+            failures: self.failures,
+        })
+    }
+}
+
 impl MemoryWriter {
     /// A writer with room for `room` bytes in all, that takes at most `piece` of them a call, and
     /// at least one: 0 counts as 1. None of its calls is chosen to fail. It fails only where there

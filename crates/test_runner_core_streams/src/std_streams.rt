@@ -1,5 +1,8 @@
 // The two streams over std's `Read` and `Write`.
-ghost use Rattle.std.specs.Prelude.{◌≡◌, false};
+ghost use Rattle.std.specs.Prelude.{◌≡◌, ◌+◌, ◌^◌, ◌<◌, false};
+ghost use Rattle.std.specs.Io.{ReadsAtMost};
+ghost use Rattle.std.specs.Io.KnownBytes.{ReadConsumes};
+ghost use Rattle.test_runner_core_streams.specs.Streams.{read_fails, failures_after};
 
 use super::failures::Failures;
 use super::traits::{LogReader, ReportWriter, write_failed};
@@ -87,8 +90,18 @@ impl<R: Read> LogReader for StdReader<R> {
 
     ghost last_failed = { λ r. r.last_failed };
 
-    /// Reads once from the reader below, and answers what that answers.
-    fn read(&mut self, buffer: &mut [u8]) -> io::Result<usize> {
+    /// Reads once from the reader below, and answers what that answers. It may be asked for any
+    /// number of bytes.
+    fn read(&mut self, buffer: &mut [u8]) -> io::Result<usize>
+        requires calls_fit { self.old.calls < 2 ^ 63 }
+        requires failures_fit { self.old.failures < 2 ^ 63 }
+        ensures bound { ReadsAtMost result buffer.new }
+        ensures bytes { ReadConsumes (R.remaining self.old.inner)
+            (R.remaining self.new.inner) result buffer.new }
+        ensures called { self.new.calls ≡ self.old.calls + 1 }
+        ensures failed { self.new.failures ≡ failures_after self.old.failures (read_fails result) }
+        ensures last { self.new.last_failed ≡ read_fails result }
+    {
         let result = self.inner.read(buffer);
         self.calls += 1;
         self.failures = self.failures.and(result.is_err());

@@ -1,10 +1,13 @@
 // The two streams, and what each call of one means.
-ghost use Rattle.std.specs.Prelude.{◌≡◌, ℕ, ◌+◌, ◌^◌, ◌<◌, Bool, List, Option, None};
+ghost use Rattle.std.specs.Prelude.{◌≡◌, ℕ, ◌+◌, ◌^◌, ◌<◌, ◌≤◌, Bool, List, length, Option, None};
 ghost use Rattle.std.specs.Io.{ReadsAtMost, WritesAtMost};
 ghost use Rattle.std.specs.Io.KnownBytes.{ReadConsumes, WriteAppends};
 ghost use Rattle.test_runner_core_streams.specs.Streams.{read_fails, write_fails, failures_after};
 
 use std::io;
+
+/// How many bytes a reader is asked for at most in one call.
+pub const READ_LIMIT: usize = 65_536;
 
 /// What a log is read from.
 pub trait LogReader {
@@ -21,10 +24,12 @@ pub trait LogReader {
     ghost last_failed: { Self → Bool };
 
     /// Moves the next bytes to the start of `buffer` and answers how many. It answers 0 only at the
-    /// end or where `buffer` has no room, and fails with the cause, which moves nothing.
+    /// end or where `buffer` has no room, and fails with the cause, which moves nothing. It is asked
+    /// for at most `READ_LIMIT` bytes.
     fn read(&mut self, buffer: &mut [u8]) -> io::Result<usize>
         requires calls_fit { calls self.old < 2 ^ 63 }
         requires failures_fit { failures self.old < 2 ^ 63 }
+        requires asked { length buffer.old ≤ READ_LIMIT }
         ensures bound { ReadsAtMost result buffer.new }
         ensures bytes { ReadConsumes (left self.old) (left self.new) result buffer.new }
         ensures called { calls self.new ≡ calls self.old + 1 }

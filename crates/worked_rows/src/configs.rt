@@ -167,8 +167,13 @@ fn each_told(
 pub(crate) fn warnings(page: &mut Page, input: &str) -> Option<()> {
     let (path, text) = two(input, " ");
     let file = ok!(toml::table_from_str(page.alloc, text));
+    let source = ConfigSource {
+        kind: ConfigSourceKind::ExplicitRepository,
+        path: ok!(Text::from_str(page.alloc, path)),
+        outcome: ConfigSourceOutcome::Text(ok!(Text::from_str(page.alloc, text))),
+    };
     let mut warnings = DefaultConfigWarnings::new(page.alloc);
-    ok!(warn_file(page.alloc, &mut warnings, path, &file));
+    ok!(warn_file(page.alloc, &mut warnings, &source, &file));
     page.joined("; ", warnings.lines());
     page.or_none(0);
     Some(())

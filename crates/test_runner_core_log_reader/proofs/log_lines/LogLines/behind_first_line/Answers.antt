@@ -8,6 +8,8 @@ use Rattle.test_runner_core_log_reader.specs.Feeds.{IsPlain}
 use Rattle.test_runner_core_log_reader.proofs.Filling.{on_err}
 use Rattle.test_runner_core_log_reader.proofs.Reading.{ahead_unmoved, ahead_then}
 use Rattle.test_runner_core_log_reader.proofs.FirstLine.{beginning, gets_plain, parts_at_feed, parts_at_end, parts_too_long}
+use Rattle.test_runner_core_log_reader.proofs.FirstReads.{asked_once_more, gets_near, reads_first}
+use Rattle.test_runner_core_log_reader.proofs.Near.{few_behind}
 use Rattle.test_runner_core_log_reader.proofs.log_lines.LogLines.behind_first_line.Goals as goal
 
 first_received : (old new : Cursor) → old.handed ≡ 0 → Unmoved old new → length old.waiting ≤ FIRST_LINE_LIMIT → bytes_received new ≤ LOG_LIMIT
@@ -93,7 +95,11 @@ loop-lines-preserved g c =
     record {
       ahead = ahead_then beginning c.scan_first.new.self c.fill.new.self (left c.args.reader.now) (left c.loop-lines.reader) (left c.fill.new.reader) before c.in_ok-moved.ensures.ahead;
       handed = c.in_ok-moved.ensures.handed ∙ waits.0.handed ∙ c.loop-lines.invariant.handed;
+      near = c.in_ok-moved.ensures.near;
       grown = omega (arith, waiting);
+      first =
+          asked_once_more c.scan_first.new.self c.fill.new.self c.in_ok-moved.moved (calls c.fill.new.reader) (calls c.loop-lines.reader) (calls c.args.reader.now)
+          (subst IsPlain (sym waits.0.waiting) waits.1) c.in_ok-moved.ensures.ok (omega (arith, grown, waiting)) called;
       bounded = reads_more (calls c.fill.new.reader) (calls c.loop-lines.reader) (calls c.args.reader.now) (length c.loop-lines.lines.waiting) grown waits.2 called;
       limit = c.in_ok-moved.ensures.limit;
       unfailed = c.in_ok-moved.ensures.failures ∙ c.loop-lines.invariant.unfailed;
@@ -127,3 +133,64 @@ returns-then-moved-eq0-clause-lines g c =
     let ahead = ahead_then beginning c.scan_first.new.self c.fill.new.self (left c.args.reader.now) (left c.loop-lines.reader) (left c.fill.new.reader) before c.in_ok-moved.ensures.ahead in
     parts_at_end (left c.args.reader.now) (left c.fill.new.reader) c.scan_first.new.self c.fill.new.self c.cut_all.new.self ahead
     (subst IsPlain (sym waits.0.waiting) waits.1) (omega (arith, waits.2, ap length waits.0.waiting)) more (c.in_ok-moved.ensures.end none) c.cut_all.ensures.line c.cut_all.ensures.waiting
+
+pub returns-in-Line-clause-near : goal.returns-in-Line-clause-near
+returns-in-Line-clause-near g c =
+    gets_near (g.R.LogReader.left c.args.reader.now) (g.R.LogReader.left c.loop-lines.reader) c.loop-lines.lines c.loop-lines.invariant.ahead c.loop-lines.invariant.near
+
+pub returns-in-Line-clause-few : goal.returns-in-Line-clause-few
+returns-in-Line-clause-few g c =
+    let cut = c.in-Line.ensures.0 in
+    few_behind c.loop-lines.lines.waiting c.scan_first.new.self.line c.scan_first.new.self.waiting cut.whole cut.plain c.loop-lines.invariant.near
+
+pub returns-in-Line-clause-reads_known : goal.returns-in-Line-clause-reads_known
+returns-in-Line-clause-reads_known g c =
+    reads_first (g.R.LogReader.left c.args.reader.now) (g.R.LogReader.left c.loop-lines.reader) c.loop-lines.lines (g.R.LogReader.calls c.loop-lines.reader)
+    (g.R.LogReader.calls c.args.reader.now) c.loop-lines.invariant.ahead c.loop-lines.invariant.first
+
+pub returns-in-Refused-clause-near : goal.returns-in-Refused-clause-near
+returns-in-Refused-clause-near g c =
+    gets_near (g.R.LogReader.left c.args.reader.now) (g.R.LogReader.left c.loop-lines.reader) c.loop-lines.lines c.loop-lines.invariant.ahead c.loop-lines.invariant.near
+
+pub returns-in-Refused-clause-reads_known : goal.returns-in-Refused-clause-reads_known
+returns-in-Refused-clause-reads_known g c =
+    reads_first (g.R.LogReader.left c.args.reader.now) (g.R.LogReader.left c.loop-lines.reader) c.loop-lines.lines (g.R.LogReader.calls c.loop-lines.reader)
+    (g.R.LogReader.calls c.args.reader.now) c.loop-lines.invariant.ahead c.loop-lines.invariant.first
+
+pub returns-in_err-moved-clause-near : goal.returns-in_err-moved-clause-near
+returns-in_err-moved-clause-near g c =
+    let left = g.R.LogReader.left in
+    let before = ahead_unmoved beginning c.loop-lines.lines c.scan_first.new.self (left c.args.reader.now) (left c.loop-lines.reader) c.loop-lines.invariant.ahead c.in-Waits.ensures.0.waiting in
+    let ahead = ahead_then beginning c.scan_first.new.self c.fill.new.self (left c.args.reader.now) (left c.loop-lines.reader) (left c.fill.new.reader) before c.in_err-moved.ensures.ahead in
+    gets_near (left c.args.reader.now) (left c.fill.new.reader) c.fill.new.self ahead c.in_err-moved.ensures.near
+
+pub returns-in_err-moved-clause-reads_known : goal.returns-in_err-moved-clause-reads_known
+returns-in_err-moved-clause-reads_known g c =
+    let left = g.R.LogReader.left in
+    let calls = g.R.LogReader.calls in
+    let waits = c.in-Waits.ensures in
+    let grown = c.loop-lines.invariant.grown in
+    let before = ahead_unmoved beginning c.loop-lines.lines c.scan_first.new.self (left c.args.reader.now) (left c.loop-lines.reader) c.loop-lines.invariant.ahead waits.0.waiting in
+    let ahead = ahead_then beginning c.scan_first.new.self c.fill.new.self (left c.args.reader.now) (left c.loop-lines.reader) (left c.fill.new.reader) before c.in_err-moved.ensures.ahead in
+    reads_first (left c.args.reader.now) (left c.fill.new.reader) c.fill.new.self (calls c.fill.new.reader) (calls c.args.reader.now) ahead
+    (asked_once_more c.scan_first.new.self c.fill.new.self 0 (calls c.fill.new.reader) (calls c.loop-lines.reader) (calls c.args.reader.now)
+    (subst IsPlain (sym waits.0.waiting) waits.1) c.in_err-moved.ensures.err (omega (arith, grown, ap length waits.0.waiting)) c.in_err-moved.ensures.called)
+
+pub returns-then-moved-eq0-clause-near : goal.returns-then-moved-eq0-clause-near
+returns-then-moved-eq0-clause-near g c =
+    let left = g.R.LogReader.left in
+    let before = ahead_unmoved beginning c.loop-lines.lines c.scan_first.new.self (left c.args.reader.now) (left c.loop-lines.reader) c.loop-lines.invariant.ahead c.in-Waits.ensures.0.waiting in
+    let ahead = ahead_then beginning c.scan_first.new.self c.fill.new.self (left c.args.reader.now) (left c.loop-lines.reader) (left c.fill.new.reader) before c.in_ok-moved.ensures.ahead in
+    gets_near (left c.args.reader.now) (left c.fill.new.reader) c.fill.new.self ahead c.in_ok-moved.ensures.near
+
+pub returns-then-moved-eq0-clause-reads_known : goal.returns-then-moved-eq0-clause-reads_known
+returns-then-moved-eq0-clause-reads_known g c =
+    let left = g.R.LogReader.left in
+    let calls = g.R.LogReader.calls in
+    let waits = c.in-Waits.ensures in
+    let grown = c.loop-lines.invariant.grown in
+    let before = ahead_unmoved beginning c.loop-lines.lines c.scan_first.new.self (left c.args.reader.now) (left c.loop-lines.reader) c.loop-lines.invariant.ahead waits.0.waiting in
+    let ahead = ahead_then beginning c.scan_first.new.self c.fill.new.self (left c.args.reader.now) (left c.loop-lines.reader) (left c.fill.new.reader) before c.in_ok-moved.ensures.ahead in
+    reads_first (left c.args.reader.now) (left c.fill.new.reader) c.fill.new.self (calls c.fill.new.reader) (calls c.args.reader.now) ahead
+    (asked_once_more c.scan_first.new.self c.fill.new.self c.in_ok-moved.moved (calls c.fill.new.reader) (calls c.loop-lines.reader) (calls c.args.reader.now)
+    (subst IsPlain (sym waits.0.waiting) waits.1) c.in_ok-moved.ensures.ok (omega (arith, grown, ap length waits.0.waiting)) c.in_ok-moved.ensures.called)

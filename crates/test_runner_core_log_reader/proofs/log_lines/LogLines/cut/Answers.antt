@@ -4,6 +4,7 @@ use Rattle.test_runner_core_log_reader.specs.Cursor.{Cursor}
 use Rattle.test_runner_core_log_reader.specs.Feeds.{IsFirstFeed, IsPlain}
 use Rattle.test_runner_core_log_reader.proofs.Ranges.{length-range}
 use Rattle.test_runner_core_log_reader.proofs.Scanning.{cut_at}
+use Rattle.test_runner_core_log_reader.proofs.Near.{few_behind, near_few}
 use Rattle.test_runner_core_log_reader.proofs.log_lines.LogLines.cut.Goals as goal
 
 -- a line feed that was found stands within the bytes that wait
@@ -44,7 +45,11 @@ pub invariant_of-self : goal.invariant_of-self
 invariant_of-self c =
     let x = c.self.inside in
     let filled : x.end ≤ length x.buffer.items = omega (arith, x.buffer.ok.0, c.self.invariant.filled) in
-    let within = feed_within x.buffer.items c.args.self.now.waiting x.start x.end c.args.length filled (ap (λ (v : Cursor). v.waiting) c.self.view_is) c.requires in
+    let waiting : slice_range x.buffer.items x.start x.end ≡ c.args.self.now.waiting = ap (λ (v : Cursor). v.waiting) c.self.view_is in
+    let within = feed_within x.buffer.items c.args.self.now.waiting x.start x.end c.args.length filled waiting c.requires in
+    let parts = cut_at x.buffer.items x.start x.end c.args.length (omega arith) filled
+    (subst (λ (ys : List ℕ). IsFirstFeed ys (Some c.args.length)) (sym waiting) c.requires) in
+    let behind : List ℕ = slice_range x.buffer.items (x.start + c.args.length + 1) x.end in
     record {
       line = at_most x.start c.args.length;
       before = at_most (x.start + c.args.length) 1;
@@ -52,6 +57,8 @@ invariant_of-self c =
       scanned = next_at_most (x.start + c.args.length) x.end within;
       filled = c.self.invariant.filled;
       plain = none_plain x.buffer.items (x.start + c.args.length + 1);
+      near = near_few behind
+          (few_behind (slice_range x.buffer.items x.start x.end) (slice_range x.buffer.items x.start (x.start + c.args.length)) behind parts.1 parts.2 c.self.invariant.near);
       handed = c.self.invariant.handed;
       received = fewer_wait x.handed x.start c.args.length x.end _ c.self.invariant.received;
     }

@@ -17,6 +17,7 @@ invariant_of-self c =
       scanned = omega arith;
       filled = c.self.invariant.filled;
       plain = all_plain x.buffer.items x.start x.scanned x.end c.self.invariant.begun c.self.invariant.scanned c.self.invariant.plain feed;
+      near = c.self.invariant.near;
       handed = c.self.invariant.handed;
       received = c.self.invariant.received;
     }
@@ -42,6 +43,7 @@ invariant_of-self-2 c =
       scanned = omega arith;
       filled = c.self.invariant.filled;
       plain = plain_before x.buffer.items x.start x.scanned x.end c.in-Some.at c.self.invariant.begun c.self.invariant.scanned filled c.self.invariant.plain feed;
+      near = c.self.invariant.near;
       handed = c.self.invariant.handed;
       received = c.self.invariant.received;
     }

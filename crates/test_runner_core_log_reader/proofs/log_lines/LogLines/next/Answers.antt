@@ -1,8 +1,9 @@
 use Rattle.std.proofs.Common.{◌≡◌, ℕ, ◌+◌, ◌<◌, ◌≤◌, ◌^◌, List, ◌∷◌, ◌++◌, length, Option, Result, Ok, Err, refl, sym, ap, ◌∙◌, subst, arith, append_assoc, length-append}
 use Rattle.std.specs.Result.{IsErr}
 use Rattle.std.proofs.lemmas.List.{take_all}
+use Rattle.test_runner_core_streams.specs.declared.traits.TheConstants.{READ_LIMIT}
 use Rattle.test_runner_core_log_reader.specs.Items.{items}
-use Rattle.test_runner_core_log_reader.specs.Cursor.{Cursor, Unmoved, bytes_received, items_ahead}
+use Rattle.test_runner_core_log_reader.specs.Cursor.{Cursor, IsNear, Unmoved, bytes_received, items_ahead}
 use Rattle.test_runner_core_log_reader.specs.Feeds.{IsPlain}
 use Rattle.test_runner_core_log_reader.specs.Calls.{idle_reads, Hands, HandsAhead, HandsBytes, KeepsAhead, Scanned, TakesLine, WaitsMore}
 use Rattle.test_runner_core_log_reader.specs.declared.limits.TheConstants.{LOG_LIMIT}
@@ -16,6 +17,7 @@ use Rattle.test_runner_core_log_reader.proofs.Left.{gives_some}
 use Rattle.test_runner_core_log_reader.proofs.Ranges.{length-range}
 use Rattle.test_runner_core_log_reader.proofs.Reading.{ahead_refl, ahead_unmoved, ahead_then, hands_line, hands_end, end_is_idle}
 use Rattle.test_runner_core_log_reader.proofs.Telling.{tells_unmoved, never_waits}
+use Rattle.test_runner_core_log_reader.proofs.Near.{few_behind, near_few, near_unmoved}
 use Rattle.test_runner_core_log_reader.proofs.log_lines.LogLines.next.Goals as goal
 
 -- how many bytes were read, after a look at those that wait
@@ -208,6 +210,7 @@ loop-fault-init g c =
     record {
       ahead = ahead_unmoved c.args.self.now c.args.self.now c.give_back.new.self left left (ahead_refl c.args.self.now left) same.waiting;
       handed = same.handed;
+      near = near_unmoved c.args.self.now c.give_back.new.self same (subst IsNear c.self.view_is c.self.invariant.near);
       grown = omega (arith, size);
       limit = omega (arith, size, within);
       unfailed = refl;
@@ -230,6 +233,7 @@ loop-fault-preserved g c =
     record {
       ahead = ahead_then c.args.self.now c.scan.new.self c.fill.new.self (left c.args.reader.now) (left c.loop-fault.reader) (left c.fill.new.reader) here c.in_ok-count.ensures.ahead;
       handed = handed ∙ before.handed;
+      near = c.in_ok-count.ensures.near;
       grown = omega (arith, waiting);
       limit = c.in_ok-count.ensures.limit;
       unfailed = c.in_ok-count.ensures.failures ∙ before.unfailed;
@@ -277,3 +281,17 @@ returns-then-count-eq0-clause-reads g c =
     ap (λ (r : Next). idle_reads (Ok r)) c.at_end.ensures
     ∙ end_is_idle c.fill.new.self.handed (length c.fill.new.self.waiting) (omega (arith, waits.2, size, handed)) (omega (arith, waits.3, size)) in
     omega (arith, idle, size, handed, c.in_ok-count.ensures.called, c.loop-fault.invariant.grown)
+
+-- few bytes wait behind a line that is taken off
+few_left : (old new : Cursor) → IsNear old → Scanned scanned.Line old new → length new.waiting < READ_LIMIT
+few_left old new near line = few_behind old.waiting new.line new.waiting line.0 line.1 near
+
+pub returns-in-Line-clause-near : goal.returns-in-Line-clause-near
+returns-in-Line-clause-near g c =
+    near_few c.scan.new.self.waiting (few_left c.loop-fault.self c.scan.new.self c.loop-fault.invariant.near c.in-Line.ensures)
+
+pub returns-in-Line-clause-few : goal.returns-in-Line-clause-few
+returns-in-Line-clause-few g c is = few_left c.loop-fault.self c.scan.new.self c.loop-fault.invariant.near c.in-Line.ensures
+
+pub returns-in-Refused-clause-near : goal.returns-in-Refused-clause-near
+returns-in-Refused-clause-near g c = near_unmoved c.loop-fault.self c.scan.new.self c.in-Refused.ensures.0 c.loop-fault.invariant.near
