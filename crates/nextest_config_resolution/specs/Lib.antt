@@ -75,8 +75,11 @@ pub use Rattle.nextest_config_resolution_settings.specs.Wrappers
 pub use Rattle.nextest_config_resolution_profiles.specs.BuiltIn
 pub use Rattle.nextest_config_resolution_profiles.specs.BuiltInLaws as BuiltInLaws
 -- warnings
+pub use Rattle.nextest_config_resolution_warnings.specs.Laws as WarningLaws
 pub use Rattle.nextest_config_resolution_warnings.specs.Places
 pub use Rattle.nextest_config_resolution_warnings.specs.Reserved
+pub use Rattle.nextest_config_resolution_warnings.specs.ShortLists
+pub use Rattle.nextest_config_resolution_warnings.specs.Standing as UnknownPlaces
 pub use Rattle.nextest_config_resolution_warnings.specs.Warn
 pub use Rattle.nextest_config_resolution_warnings.specs.Unknown
 pub use Rattle.nextest_config_resolution_warnings.specs.Warnings

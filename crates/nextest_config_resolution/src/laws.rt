@@ -23,3 +23,4 @@ pub use nextest_config_resolution_settings::laws::{
     held_rules, least_rule, one_least, one_setting, same_settings,
 };
 pub use nextest_config_resolution_values::laws::accepted_profile;
+pub use nextest_config_resolution_warnings::laws::unknown_is_found;

@@ -56,7 +56,7 @@ module _ {F S : Type 0} (Is : IsFilterBy F) (IsSpec : IsSpecBy S) (IsTooDeep : L
   kept_apart (broken refusal) told kept breaks = kept
   kept_apart (inheritance parents) told kept (fault, is, first) = no_fault parents fault kept first
   kept_apart (is_filter of_purpose text refusal) told (it, is) (same, inl none) = none it is
-  kept_apart (is_filter of_purpose text refusal) told (it, is) (same, inr deep) = none_too_deep text deep
+  kept_apart (is_filter of_purpose text refusal) told (it, is) (same, inr (read, deep)) = none_too_deep text deep
   kept_apart (is_spec text refusal) told (it, is) (same, none) = none it is
 
   pub none_breaks : (checks : List Check) (told : Refusal) → AllByRecursion (IsKept Is IsSpec) checks → BreaksFirst Is IsSpec IsTooDeep checks told → ⊥

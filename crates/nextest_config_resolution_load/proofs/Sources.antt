@@ -20,6 +20,10 @@ use Rattle.nextest_config_resolution_load.proofs.Passing.{taken_more}
 use Rattle.nextest_config_resolution_sources.specs.declared.source.ConfigSource.{ConfigSource}
 use Rattle.nextest_config_resolution_warnings.specs.declared.config_warning.ConfigWarning.{ConfigWarning}
 
+-- a warning and the source of its file
+abbrev Told : Type 0
+Told = ConfigSource × ConfigWarning
+
 abbrev pub now_of : List (Bor ConfigSource) → List ConfigSource
 now_of sources = map (λ it. it.now) sources
 
@@ -39,14 +43,14 @@ files_more done added all place source file within is here so adds =
     ∙ ap (filter_map file_of) (sym (taken_more all place source within is))
 
 -- and what is told of it
-pub told_more : (told added : List ConfigWarning) (all : List ConfigSource) (place : ℕ) (path : List ℕ) (source : ConfigSource) (file : Option Members) → place < length all
-    → source ≡ get_or all place source → file_of source ≡ file → path ≡ source.path → told ≡ flat_map warnings_for (take place all) → added ≡ told ++ warnings_at path file
+pub told_more : (told added : List Told) (all : List ConfigSource) (place : ℕ) (source : ConfigSource) (file : Option Members) → place < length all
+    → source ≡ get_or all place source → file_of source ≡ file → told ≡ flat_map warnings_for (take place all) → added ≡ told ++ warnings_at source file
     → added ≡ flat_map warnings_for (take (place + 1) all)
-told_more told added all place path source file within is here stands so adds =
+told_more told added all place source file within is here so adds =
     adds
-    ∙ ap (λ (front : List ConfigWarning). front ++ warnings_at path file) so
-    ∙ ap (λ (last : List ConfigWarning). flat_map warnings_for (take place all) ++ last)
-    (ap (λ (at : List ℕ). warnings_at at file) stands ∙ ap (warnings_at source.path) (sym here) ∙ sym (append-nil (warnings_for source)))
+    ∙ ap (λ (front : List Told). front ++ warnings_at source file) so
+    ∙ ap (λ (last : List Told). flat_map warnings_for (take place all) ++ last)
+    (ap (warnings_at source) (sym here) ∙ sym (append-nil (warnings_for source)))
     ∙ sym (flat_map-append warnings_for (take place all) (source ∷ []))
     ∙ ap (flat_map warnings_for) (sym (taken_more all place source within is))
 
@@ -83,23 +87,23 @@ tree_more built_in tree added all place source file within is here so adds =
     (sym (map-append file_with_setup front last) ∙ ap (map file_with_setup) (files_more front (front ++ last) all place source file within is here refl refl))
 
 -- what is kept behind what was kept
-kept_both : (old now new : Option (List ConfigWarning)) (front last : List ConfigWarning) → AreKept old now front → AreKept now new last → AreKept old new (front ++ last)
-kept_both old now new front last first second = second ∙ ap (option_map (λ (told : List ConfigWarning). told ++ last)) first ∙ behind old where
-  behind : (it : Option (List ConfigWarning)) → option_map (λ (told : List ConfigWarning). told ++ last) (option_map (λ (told : List ConfigWarning). told ++ front) it) ≡ option_map (λ (told : List ConfigWarning). told ++ (front ++ last)) it
+kept_both : (old now new : Option (List Told)) (front last : List Told) → AreKept old now front → AreKept now new last → AreKept old new (front ++ last)
+kept_both old now new front last first second = second ∙ ap (option_map (λ (told : List Told). told ++ last)) first ∙ behind old where
+  behind : (it : Option (List Told)) → option_map (λ (told : List Told). told ++ last) (option_map (λ (told : List Told). told ++ front) it) ≡ option_map (λ (told : List Told). told ++ (front ++ last)) it
   behind None = refl
   behind (Some told) = ap Some (append_assoc told front last)
 
-pub kept_none : (old : Option (List ConfigWarning)) → AreKept old old []
+pub kept_none : (old : Option (List Told)) → AreKept old old []
 kept_none None = refl
 kept_none (Some told) = ap Some (sym (append-nil told))
 
-pub kept_more : (old now new : Option (List ConfigWarning)) (all : List ConfigSource) (place : ℕ) (path : List ℕ) (source : ConfigSource) (file : Option Members) → place < length all
-    → source ≡ get_or all place source → file_of source ≡ file → path ≡ source.path → AreKept old now (flat_map warnings_for (take place all)) → AreKept now new (warnings_at path file)
+pub kept_more : (old now new : Option (List Told)) (all : List ConfigSource) (place : ℕ) (source : ConfigSource) (file : Option Members) → place < length all
+    → source ≡ get_or all place source → file_of source ≡ file → AreKept old now (flat_map warnings_for (take place all)) → AreKept now new (warnings_at source file)
     → AreKept old new (flat_map warnings_for (take (place + 1) all))
-kept_more old now new all place path source file within is here stands so adds =
+kept_more old now new all place source file within is here so adds =
     let front = flat_map warnings_for (take place all) in
-    subst (AreKept old new) (told_more front (front ++ warnings_at path file) all place path source file within is here stands refl refl)
-    (kept_both old now new front (warnings_at path file) so adds)
+    subst (AreKept old new) (told_more front (front ++ warnings_at source file) all place source file within is here refl refl)
+    (kept_both old now new front (warnings_at source file) so adds)
 
 -- all of them
 pub files_read : {F S : Type 0} (Is : IsFilterBy F) (IsSpec : IsSpecBy S) (built_in : Members) (all : List ConfigSource) (place : ℕ) (it : ReadFiles F S) → length all ≤ place
@@ -112,12 +116,12 @@ files_read Is IsSpec built_in all place it over tree rules =
       rules = subst (λ (sources : List ConfigSource). AreRulesOf Is IsSpec sources it.rules.items) whole rules;
     }
 
-pub kept_whole : (old new : Option (List ConfigWarning)) (all : List ConfigSource) (place : ℕ) → length all ≤ place → AreKept old new (flat_map warnings_for (take place all))
+pub kept_whole : (old new : Option (List Told)) (all : List ConfigSource) (place : ℕ) → length all ≤ place → AreKept old new (flat_map warnings_for (take place all))
     → AreKept old new (flat_map warnings_for all)
 kept_whole old new all place over kept = subst (λ (sources : List ConfigSource). AreKept old new (flat_map warnings_for sources)) (take_all place all over) kept
 
 -- all that was kept
-pub told_all : (first : List ConfigWarning) (new : Option (List ConfigWarning)) (told otherwise further : List ConfigWarning) → first ≡ [] → AreKept (Some first) new further → told ≡ unwrap_or new otherwise
+pub told_all : (first : List Told) (new : Option (List Told)) (told otherwise further : List Told) → first ≡ [] → AreKept (Some first) new further → told ≡ unwrap_or new otherwise
     → told ≡ further
 told_all first new told otherwise further none kept is =
-    is ∙ ap (λ (it : Option (List ConfigWarning)). unwrap_or it otherwise) kept ∙ ap (λ (it : List ConfigWarning). it ++ further) none
+    is ∙ ap (λ (it : Option (List Told)). unwrap_or it otherwise) kept ∙ ap (λ (it : List Told). it ++ further) none

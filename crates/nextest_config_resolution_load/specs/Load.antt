@@ -1,6 +1,6 @@
 -- What a configuration comes to, or why it is refused. A text is a filter by `Is`, for what filters
 -- are for, and a platform spec by `IsSpec`; the reader may also refuse a filter for which
--- `IsTooDeep` holds.
+-- `IsTooDeep` holds, where it reads it.
 use Rattle.std.specs.Prelude.{◌≡◌, ◌⊎◌, ℕ, List, [], ◌∷◌, map, Option, None, Some, Result, Ok, Err, ⊤}
 use Rattle.std.specs.List.{AllByRecursion, AllZip}
 use Rattle.toml.specs.Data.{Members}
@@ -40,10 +40,16 @@ IsKept {F} {S} Is IsSpec (is_filter of_purpose text refusal) = (it : F) × Is of
 IsKept {F} {S} Is IsSpec (is_spec text refusal) = (it : S) × IsSpec text it
 IsKept {F} {S} Is IsSpec (inheritance parents) = IsAccepted parents
 
+-- a text is read for this; for a `list-wrapper` it isn't, since it was read as the filter of its rule
+abbrev pub IsReadFor : FilterPurpose → Type 0
+IsReadFor purpose.Default = ⊤
+IsReadFor purpose.Override = ⊤
+IsReadFor purpose.ListWrapper = ⊥
+
 -- a check is broken, for this
 abbrev pub Breaks : {F S : Type 0} → IsFilterBy F → IsSpecBy S → (List ℕ → Type 0) → Check → Refusal → Type 0
 Breaks {F} {S} Is IsSpec IsTooDeep (broken refusal) told = told ≡ refusal
-Breaks {F} {S} Is IsSpec IsTooDeep (is_filter of_purpose text refusal) told = (told ≡ refusal) × (((it : F) → Is of_purpose text it → ⊥) ⊎ IsTooDeep text)
+Breaks {F} {S} Is IsSpec IsTooDeep (is_filter of_purpose text refusal) told = (told ≡ refusal) × (((it : F) → Is of_purpose text it → ⊥) ⊎ (IsReadFor of_purpose × IsTooDeep text))
 Breaks {F} {S} Is IsSpec IsTooDeep (is_spec text refusal) told = (told ≡ refusal) × ((it : S) → IsSpec text it → ⊥)
 Breaks {F} {S} Is IsSpec IsTooDeep (inheritance parents) told = (fault : InheritanceFault) × (told ≡ inherits_badly fault) × IsFirstFault parents fault
 

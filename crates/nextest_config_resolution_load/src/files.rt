@@ -31,13 +31,13 @@ use toml::Table;
 
 // What the files of some sources come to, each over the lower ones and over what is built in, and
 // the rules of each source. What is told of the files is kept, if anything is.
-pub(crate) fn read_files<R: Languages>(
+pub(crate) fn read_files<'s, R: Languages>(
     alloc: Global,
     built_in: &Table,
     cx: &R::Cx,
     features: FeatureSet,
-    sources: &[&ConfigSource],
-    kept: &mut Option<KeptWarnings>,
+    sources: &[&'s ConfigSource],
+    kept: &mut Option<KeptWarnings<'s>>,
 ) -> Result<ReadFiles<R::Filter, R::Spec>, LoadError>
     ensures read { let all = map (λ it. it.now) sources.now in Passes
         (R.is_filter cx.now) R.is_spec R.is_too_deep (flat_map (source_checks features) all)
@@ -66,13 +66,13 @@ fn copied(table: &Table) -> Result<Table, AllocError>
 
 // What the file of a source, if there is one, comes to over a tree, and its rules. What is told of
 // the file is kept, if anything is.
-fn read_source<R: Languages>(
+fn read_source<'s, R: Languages>(
     alloc: Global,
     cx: &R::Cx,
     features: FeatureSet,
-    source: &ConfigSource,
+    source: &'s ConfigSource,
     tree: Tree,
-    kept: &mut Option<KeptWarnings>,
+    kept: &mut Option<KeptWarnings<'s>>,
 ) -> Result<ReadFile<R::Filter, R::Spec>, LoadError>
     ensures read { let given = file_of source.now in Passes
         (R.is_filter cx.now) R.is_spec R.is_too_deep (source_checks features source.now)
@@ -82,16 +82,7 @@ fn read_source<R: Languages>(
     let path = source.path.as_str();
     match &source.outcome {
         ConfigSourceOutcome::Text(text) => {
-            read_text::<R>(
-                alloc,
-                cx,
-                features,
-                path,
-                &source.kind,
-                text.as_str(),
-                tree,
-                kept,
-            )
+            read_text::<R>(alloc, cx, features, source, text.as_str(), tree, kept)
         }
         ConfigSourceOutcome::NotFound => read_missing::<R>(alloc, cx, path, &source.kind, tree),
         ConfigSourceOutcome::Failed(cause) => Err(unread(alloc, path, cause.as_str())),
@@ -131,27 +122,27 @@ fn no_rules<F: Drop, S: Drop>(alloc: Global) -> SourceRules<F, S>
     }
 }
 
-// What the file of a text comes to over a tree, and its rules.
-fn read_text<R: Languages>(
+// What the file of a source with this text comes to over a tree, and its rules.
+fn read_text<'s, R: Languages>(
     alloc: Global,
     cx: &R::Cx,
     features: FeatureSet,
-    path: &str,
-    kind: &ConfigSourceKind,
+    source: &'s ConfigSource,
     text: &str,
     tree: Tree,
-    kept: &mut Option<KeptWarnings>,
+    kept: &mut Option<KeptWarnings<'s>>,
 ) -> Result<ReadFile<R::Filter, R::Spec>, LoadError>
-    ensures read { let given = parse_document text.now in Passes (R.is_filter cx.now)
-        R.is_spec R.is_too_deep (document_checks features path.now kind.now given)
-        (IsReadFile (R.is_filter cx.now) R.is_spec path.now given (members_view tree)) result }
+    ensures read { let given = parse_document text.now in Passes (R.is_filter cx.now) R.is_spec
+        R.is_too_deep (document_checks features source.now.path source.now.kind given)
+        (IsReadFile (R.is_filter cx.now) R.is_spec source.now.path given (members_view tree)) result }
     ensures kept { OnOk result
-        (AreKept kept.old kept.new (warnings_at path.now (parse_document text.now))) }
+        (AreKept kept.old kept.new (warnings_at source.now (parse_document text.now))) }
 {
+    let path = source.path.as_str();
     let file = parse_text(alloc, path, text)?;
-    keep_warnings(alloc, kept, path, &file)?;
+    keep_warnings(kept, source, &file)?;
     let mut tree = tree;
-    let rules = read_rules::<R>(alloc, cx, features, path, kind, file, &mut tree)?;
+    let rules = read_rules::<R>(alloc, cx, features, path, &source.kind, file, &mut tree)?;
     Ok(ReadFile { tree, rules })
 }
 

@@ -68,8 +68,8 @@ pub fn load<R: Languages>(
 }
 
 /// What `load` gives of the sources, and `warnings` is told what no configuration knows in the
-/// files: in each that counts and is there, the lowest first, as `warn_file` tells it, under the
-/// path of its source.
+/// files: in each that counts and is there, the lowest first, as `warn_file` tells it, with its
+/// source.
 ///
 /// # Errors
 ///
@@ -103,13 +103,13 @@ pub fn load_with_warnings<R: Languages, W: ConfigWarnings>(
 
 // What sources come to, before it is asked what their rules name and how profiles inherit. What is
 // told of their files is kept, if anything is.
-fn read_sources<R: Languages>(
+fn read_sources<'s, R: Languages>(
     alloc: Global,
     built_in: &Table,
     cx: &R::Cx,
-    sources: &[ConfigSource],
+    sources: &'s [ConfigSource],
     features: FeatureSet,
-    kept: &mut Option<KeptWarnings>,
+    kept: &mut Option<KeptWarnings<'s>>,
 ) -> Result<ReadSources<R::Filter, R::Spec>, LoadError>
     ensures read { let lowest = table_view built_in.now in Passes
         (R.is_filter cx.now) R.is_spec R.is_too_deep (early_checks features lowest sources.now)

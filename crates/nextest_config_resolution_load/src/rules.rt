@@ -1,7 +1,7 @@
 // The rules of files, as they are checked and read.
 ghost use Rattle.std.specs.Prelude.{◌≡◌, Some, ⊤, option_copied};
 ghost use Rattle.std.specs.List.{flat_map};
-ghost use Rattle.nextest_config_resolution_load.specs.Load.{AreReadBy, IsCompiledRule, IsReadAs};
+ghost use Rattle.nextest_config_resolution_load.specs.Load.{AreReadBy, IsCompiledRule, IsReadAs, IsReadFor};
 ghost use Rattle.nextest_config_resolution_load.specs.Refusing.{Passes};
 ghost use Rattle.nextest_config_resolution_load.specs.RuleIds.{rule_of};
 ghost use Rattle.nextest_config_resolution_load.specs.RuleTexts.{checks_by, texts_of};
@@ -165,7 +165,7 @@ fn spec_of<R: Languages>(
     }
 }
 
-// A filter that a rule has.
+// A filter that a rule has, where it is read for this.
 fn filter_of<R: Languages>(
     alloc: Global,
     cx: &R::Cx,
@@ -173,7 +173,7 @@ fn filter_of<R: Languages>(
     purpose: FilterPurpose,
     text: Option<&Text>,
 ) -> Result<Option<R::Filter>, LoadError>
-    ensures { Passes (R.is_filter cx.now) R.is_spec R.is_too_deep
+    ensures { IsReadFor purpose → Passes (R.is_filter cx.now) R.is_spec R.is_too_deep
         (words.filter_checks (rule_of id.entry) purpose (option_copied text.entry))
         (IsReadAs (R.is_filter cx.now purpose) (option_copied text.entry)) result }
 {

@@ -8,6 +8,7 @@ use crate::platforms::{BuildPlatforms, spec_holds};
 use nextest_config_resolution_filters::Specs;
 use nextest_config_resolution_load::LoadedRule;
 use nextest_filtering_ast::BuildPlatform;
+use std::alloc::AllocError;
 
 // A rule of a chain. Until it is put on platforms it holds on all of them.
 #[derive(Drop)]
@@ -17,6 +18,20 @@ pub(crate) struct ChainRule<'c, P, F, S> {
     pub(crate) for_host: bool,
     // Whether it holds for what is built for the target.
     pub(crate) for_target: bool,
+}
+
+impl<'c, P, F, S> Clone for ChainRule<'c, P, F, S> {
+    ghost use Rattle.std.specs.Prelude.{◌≡◌};
+
+    ghost is_clone = { λ original copy. copy ≡ original };
+
+    fn clone(&self) -> Result<ChainRule<'c, P, F, S>, AllocError> {
+        Ok(ChainRule {
+            rule: self.rule,
+            for_host: self.for_host,
+            for_target: self.for_target,
+        })
+    }
 }
 
 impl<'c, P, F, S: Specs> ChainRule<'c, P, F, S> {

@@ -37,6 +37,19 @@ pub struct EnabledScript<'c> {
     pub config: &'c SetupScriptConfig,
 }
 
+impl<'c> Clone for EnabledScript<'c> {
+    ghost use Rattle.std.specs.Prelude.{◌≡◌};
+
+    ghost is_clone = { λ original copy. copy ≡ original };
+
+    fn clone(&self) -> Result<EnabledScript<'c>, AllocError> {
+        Ok(EnabledScript {
+            id: self.id.clone()?,
+            config: self.config,
+        })
+    }
+}
+
 // One call drops it, whoever holds it.
 impl<'c> Drop for EnabledScript<'c> {
     fn drop(self) {

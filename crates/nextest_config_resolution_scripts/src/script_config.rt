@@ -29,6 +29,20 @@ pub struct NamedScript<Config> {
     pub config: Config,
 }
 
+// Its name is cloned, and what it is set to: where clones of that equal it, the clone is the same
+// script.
+impl<Config: Clone> Clone for NamedScript<Config> {
+    ghost is_clone = { λ original copy.
+        (copy.id ≡ original.id) × Config.is_clone original.config copy.config };
+
+    fn clone(&self) -> Result<NamedScript<Config>, AllocError> {
+        Ok(NamedScript {
+            id: self.id.clone()?,
+            config: self.config.clone()?,
+        })
+    }
+}
+
 // One call drops it, whoever holds it.
 impl<Config: Drop> Drop for NamedScript<Config> {
     fn drop(self) {
@@ -43,6 +57,17 @@ pub struct ScriptConfig {
     pub setup: Listing<NamedScript<SetupScriptConfig>>,
     /// `scripts.wrapper`: the wrapper scripts.
     pub wrapper: Listing<NamedScript<WrapperScriptConfig>>,
+}
+
+impl Clone for ScriptConfig {
+    ghost is_clone = { λ original copy. copy ≡ original };
+
+    fn clone(&self) -> Result<ScriptConfig, AllocError> {
+        Ok(ScriptConfig {
+            setup: self.setup.clone()?,
+            wrapper: self.wrapper.clone()?,
+        })
+    }
 }
 
 // One call drops it, whoever holds it.

@@ -1,5 +1,5 @@
 // The script rules of a profile.
-ghost use Rattle.std.specs.Prelude.{[], decimal, option_map};
+ghost use Rattle.std.specs.Prelude.{◌≡◌, [], decimal, option_map};
 ghost use Rattle.toml.specs.View.{items_view, members_view, table_view, view};
 ghost use Rattle.nextest_config_elements_toml.specs.Paths.{Gives, GivesAt};
 ghost use Rattle.nextest_config_elements_toml.specs.Reading.{under};
@@ -13,7 +13,7 @@ use nextest_config_elements_toml::{TableMembers, ValueError, member, refused};
 use nextest_config_resolution_commands::ScriptId;
 use nextest_config_resolution_overrides::OverridePlatforms;
 use nextest_text::{Listing, Text};
-use std::alloc::Global;
+use std::alloc::{AllocError, Global};
 use std::fmt;
 use toml::{Table, Value};
 
@@ -32,6 +32,20 @@ pub struct ScriptRuleConfig {
     pub run_wrapper: Option<ScriptId>,
     /// `setup`: the setup scripts that are run before the tests.
     pub setup: Listing<ScriptId>,
+}
+
+impl Clone for ScriptRuleConfig {
+    ghost is_clone = { λ original copy. copy ≡ original };
+
+    fn clone(&self) -> Result<ScriptRuleConfig, AllocError> {
+        Ok(ScriptRuleConfig {
+            filter: self.filter.clone()?,
+            list_wrapper: self.list_wrapper.clone()?,
+            platform: self.platform.clone()?,
+            run_wrapper: self.run_wrapper.clone()?,
+            setup: self.setup.clone()?,
+        })
+    }
 }
 
 // One call drops it, whoever holds it.

@@ -13,7 +13,7 @@ use nextest_config_elements_deserialize::{
 use nextest_config_elements_toml::{TableMembers, ValueError, refused};
 use nextest_config_elements_values::{ConfigDuration, LeakTimeout, SlowTimeout};
 use nextest_config_resolution_commands::ScriptCommand;
-use std::alloc::Global;
+use std::alloc::{AllocError, Global};
 use toml::{Table, Value};
 
 /// A setup script: a command that is run before the tests that need it.
@@ -30,6 +30,21 @@ pub struct SetupScriptConfig {
     pub capture_stderr: bool,
     /// `junit`: what the report in JUnit's form has of it.
     pub junit: SetupScriptJunitConfig,
+}
+
+impl Clone for SetupScriptConfig {
+    ghost is_clone = { λ original copy. copy ≡ original };
+
+    fn clone(&self) -> Result<SetupScriptConfig, AllocError> {
+        Ok(SetupScriptConfig {
+            command: self.command.clone()?,
+            slow_timeout: self.slow_timeout,
+            leak_timeout: self.leak_timeout,
+            capture_stdout: self.capture_stdout,
+            capture_stderr: self.capture_stderr,
+            junit: self.junit,
+        })
+    }
 }
 
 // One call drops it, whoever holds it.

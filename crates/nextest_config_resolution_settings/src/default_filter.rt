@@ -26,6 +26,20 @@ pub struct CompiledDefaultFilter<'c, F> {
     pub section: CompiledDefaultFilterSection,
 }
 
+impl<'c, F> Clone for CompiledDefaultFilter<'c, F> {
+    ghost use Rattle.std.specs.Prelude.{◌≡◌};
+
+    ghost is_clone = { λ original copy. copy ≡ original };
+
+    fn clone(&self) -> Result<CompiledDefaultFilter<'c, F>, AllocError> {
+        Ok(CompiledDefaultFilter {
+            filter: self.filter,
+            profile: self.profile,
+            section: self.section,
+        })
+    }
+}
+
 impl<'c, F> CompiledDefaultFilter<'c, F> {
     /// Where it is set, as users are told: `profile.NAME.default-filter`, with ` (override)` behind
     /// it where an override sets it. An `Err` says that there was no memory.

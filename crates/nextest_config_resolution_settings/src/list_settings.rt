@@ -3,6 +3,7 @@ ghost use Rattle.std.specs.Prelude.{◌≡◌, None, Some};
 ghost use Rattle.std.specs.Option.{option_copied};
 
 use nextest_config_resolution_scripts::WrapperScriptConfig;
+use std::alloc::AllocError;
 
 /// The settings with which the tests of a binary are listed. With each stands what is kept of where
 /// it is taken from.
@@ -10,6 +11,18 @@ use nextest_config_resolution_scripts::WrapperScriptConfig;
 pub struct ListSettings<'p, Source = ()> {
     /// `list-wrapper`: the script that the command is handed to, if there is one.
     pub list_wrapper: (Option<&'p WrapperScriptConfig>, Source),
+}
+
+impl<'p, Source: Copy> Clone for ListSettings<'p, Source> {
+    ghost use Rattle.std.specs.Prelude.{◌≡◌};
+
+    ghost is_clone = { λ original copy. copy ≡ original };
+
+    fn clone(&self) -> Result<ListSettings<'p, Source>, AllocError> {
+        Ok(ListSettings {
+            list_wrapper: self.list_wrapper,
+        })
+    }
 }
 
 impl<'p> ListSettings<'p, ()> {

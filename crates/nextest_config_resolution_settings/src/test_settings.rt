@@ -9,6 +9,7 @@ use nextest_config_elements_values::{
 };
 use nextest_config_resolution_scripts::WrapperScriptConfig;
 use nextest_text::Text;
+use std::alloc::AllocError;
 
 /// The group that a test is in, lent.
 #[derive(Clone, Copy)]
@@ -53,6 +54,16 @@ pub struct TestSettings<'p, Source = ()> {
     pub junit_report_skipped: (ReportSkipPolicy, Source),
     /// `junit.flaky-fail-status`: how it is reported where it fails since it is flaky.
     pub junit_flaky_fail_status: (JunitFlakyFailStatus, Source),
+}
+
+impl<'p, Source: Copy> Clone for TestSettings<'p, Source> {
+    ghost use Rattle.std.specs.Prelude.{◌≡◌};
+
+    ghost is_clone = { λ original copy. copy ≡ original };
+
+    fn clone(&self) -> Result<TestSettings<'p, Source>, AllocError> {
+        Ok(TestSettings { ..*self })
+    }
 }
 
 impl<'p, Source> TestSettings<'p, Source> {

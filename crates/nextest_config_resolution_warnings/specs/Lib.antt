@@ -1,9 +1,12 @@
 pub mod Kept
 pub mod Keys
+pub mod Laws
 pub mod Places
 pub mod Reserved
 pub mod Scripts
+pub mod ShortLists
 pub mod Shown
+pub mod Standing
 pub mod Steps
 pub mod Unknown
 pub mod Warn

@@ -7,6 +7,7 @@ mod default_warnings;
 mod file_warnings;
 mod kept_warnings;
 mod keys;
+pub mod laws;
 mod place;
 mod reserved;
 mod scripts;

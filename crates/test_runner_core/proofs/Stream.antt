@@ -137,17 +137,22 @@ begun_nothing left = of_any (λ bytes. StreamBegun bytes []) left (λ bytes. by_
     by_line bytes (Err refusal) = inl refl
 
 -- a stream whose inputs have no plan is read for its first line alone
-pub first_line_alone : (inputs : Inputs) (left rest : Option (List ℕ)) (lines : Cursor) (first last most : ℕ)
-    → PartsAtFirst left (Some lines) rest → read_inputs lines.line ≡ Ok inputs → first ≤ most
+pub first_line_alone : (inputs : Inputs) (left rest : Option (List ℕ)) (lines : Cursor) (first last : ℕ) (most : List ℕ → ℕ)
+    → PartsAtFirst left (Some lines) rest → read_inputs lines.line ≡ Ok inputs → IfSome left (λ bytes. first ≤ most bytes)
     → ((refusal : PlanFault) → Plans (table_of inputs) inputs (Err refusal) → last ≡ first)
-    → IfSome left (λ bytes. HasNoPlan (read_inputs (before_feed bytes)) → last ≤ most)
+    → IfSome left (λ bytes. HasNoPlan (read_inputs (before_feed bytes)) → last ≤ most bytes)
 first_line_alone inputs None rest lines first last most parted read few unread = tt
 first_line_alone inputs (Some bytes) rest lines first last most parted read few unread = λ none.
     let some = gives_some rest in
     let at = parted some.0 some.1 in
     let known : read_inputs (before_feed bytes) ≡ Ok inputs = ap (λ (b : List ℕ). read_inputs (before_feed b)) (sym at.1) ∙ ap read_inputs (sym at.2.0) ∙ read in
     let refused = subst (λ (r : Result Inputs InputsRefusal). HasNoPlan r) known none in
-    subst (λ (n : ℕ). n ≤ most) (sym (unread refused.0 refused.1)) few
+    subst (λ (n : ℕ). n ≤ most bytes) (sym (unread refused.0 refused.1)) few
+
+-- what holds of known bytes holds of them under any premise
+pub whatever_is_known : (left : Option (List ℕ)) (Premise Holds : List ℕ → Type 0) → IfSome left Holds → IfSome left (λ bytes. Premise bytes → Holds bytes)
+whatever_is_known None Premise Holds known = tt
+whatever_is_known (Some bytes) Premise Holds known = λ premise. known
 
 pub refused_begun : (refusal : InputsRefusal) (left : Option (List ℕ)) → OfBytes left (λ bytes. read_inputs (before_feed bytes) ≡ Err refusal)
     → (parts : List Part) → parts ≡ refused_inputs refusal → OfLeft left (λ bytes. StreamBegun bytes parts)

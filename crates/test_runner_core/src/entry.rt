@@ -1,5 +1,5 @@
 // The two ways to judge a run: of inputs and a log, and of one stream that has both.
-ghost use Rattle.std.specs.Prelude.{◌≡◌, ℕ, ◌+◌, ◌^◌, ◌<◌, ◌≤◌, List, IfOk, IfSome, Err};
+ghost use Rattle.std.specs.Prelude.{◌≡◌, ℕ, ◌+◌, ◌^◌, ◌<◌, ◌≤◌, List, IfOk, IfSome, Err, length};
 ghost use Rattle.test_runner_core_log_reader.specs.Limits.{first_line_reads, log_reads};
 ghost use Rattle.test_runner_core_streams.specs.Left.{OfBytes};
 ghost use Rattle.test_runner_core_inputs.specs.Reading.{read_inputs};
@@ -29,7 +29,9 @@ use test_runner_core_workspace::{Lister, TableLister};
 /// asked once for each listed binary, in the workspace's order, up to the first whose answer is
 /// refused, and for none where the inputs are refused before. Where the inputs have no plan,
 /// nothing of the log is read, and the report is the one line of the refusal. Whenever the log is
-/// asked for more, all is written that the whole lines so far come to.
+/// asked for more, all is written that the whole lines so far come to: that is said, in `reports`,
+/// of a read that fails. No read asks for more than `READ_LIMIT` bytes, which a `LogReader` may
+/// rely on.
 ///
 /// Where no line is refused, the log agrees with an assignment and has no stop, and the run is
 /// complete, the status is that assignment's due status, and where no script of the assignment
@@ -83,8 +85,9 @@ pub fn judge<L: Lister, R: LogReader, W: ReportWriter>(
 /// Judges the run of one stream: its bytes up to the first line feed, or to its end, are the JSON
 /// inputs, with the tests of each binary, and the rest is the log. A first line of more than
 /// 16,777,216 bytes is no inputs. Where the first line is no inputs or they have no plan, the
-/// reader is called for that line alone. The stream is that of the bytes that the reader has left;
-/// where these aren't known, all this holds of some stream.
+/// reader is called for that line alone: each call but the last brings some of its bytes
+/// (`unread`). No read asks for more than `READ_LIMIT` bytes. The stream is that of the bytes that
+/// the reader has left; where these aren't known, all this holds of some stream.
 ///
 /// # Errors
 ///
@@ -106,7 +109,7 @@ pub fn judge_stream<R: LogReader, W: ReportWriter>(
     ensures headline { IfOk result (λ code. OfLeft (R.left input.old) (λ bytes.
         StreamHeadline bytes code (W.taken report.old) (W.taken report.new))) }
     ensures unread { IfSome (R.left input.old) (λ bytes. HasNoPlan (read_inputs (before_feed bytes))
-        → R.calls input.new ≤ R.calls input.old + first_line_reads) }
+        → R.calls input.new ≤ R.calls input.old + length (before_feed bytes) + 1) }
     ensures reads { R.calls input.new ≤ R.calls input.old + first_line_reads + log_reads }
     ensures read_failures { CountsReadFailures result (R.failures input.old) (R.failures input.new)
         (R.last_failed input.new) }

@@ -57,7 +57,8 @@ pub use test_runner_core_run_state::StartFault;
 pub use test_runner_core_session::{Fate, Session};
 pub use test_runner_core_settings::owned_settings;
 pub use test_runner_core_streams::{
-    LogReader, MemoryReader, MemoryWriter, ReportWriter, StdReader, StdWriter, WriteFailure,
+    LogReader, MemoryReader, MemoryWriter, READ_LIMIT, ReportWriter, StdReader, StdWriter,
+    WriteFailure,
 };
 pub use test_runner_core_workspace::{
     Binary, BinaryKind, BinaryTests, BuildPlatform, Link, ListFault, Lister, Package, TableLister,

@@ -136,7 +136,7 @@ run_shows old (event ∷ run) new happens =
 -- ---- how many that may be
 
 -- a test that isn't finished has a try left, and a finished one took no more than it has
-abbrev HasRoom : TestState → Type 0
+abbrev pub HasRoom : TestState → Type 0
 HasRoom test = length test.records + cond (is_finished test) 0 1 ≤ test.plan.tries
 
 room_set : (tests : List TestState) (place : ℕ) (new : TestState) → AllByRecursion HasRoom tests → HasRoom new → AllByRecursion HasRoom (slice_set tests place new)
@@ -144,7 +144,7 @@ room_set [] place new all room = tt
 room_set (first ∷ tests) zero new all room = (room, all.1)
 room_set (first ∷ tests) (suc place) new all room = (all.0, room_set tests place new all.1 room)
 
-room_at : (tests : List TestState) (place : ℕ) (test : TestState) → AllByRecursion HasRoom tests → slice_get tests place ≡ Some test → HasRoom test
+pub room_at : (tests : List TestState) (place : ℕ) (test : TestState) → AllByRecursion HasRoom tests → slice_get tests place ≡ Some test → HasRoom test
 room_at [] place test all found = cc
 room_at (first ∷ tests) zero test all found = let e : first ≡ test = cc in subst HasRoom e all.0
 room_at (first ∷ tests) (suc place) test all found = room_at tests place test all.1 found
@@ -160,7 +160,7 @@ room_stopped reason (test ∷ tests) all = (by_mark test.mark all.0, room_stoppe
     by_mark marks.Between h = omega (arith, h)
     by_mark (marks.Finished kept) h = h
 
-abbrev AllRoom : State → Type 0
+abbrev pub AllRoom : State → Type 0
 AllRoom state = AllByRecursion HasRoom state.tests
 
 room_limited : (finished : Bool) (state : State) → AllRoom state → AllRoom (after_limit finished state)
@@ -217,11 +217,11 @@ step_room old new (events.Stopped reason) all happens =
     by_reason None = room_stopped reason old.tests all
     by_reason (Some kept) = all
 
-run_room : (old : State) (run : List Event) (new : State) → AllRoom old → Run old run new → AllRoom new
+pub run_room : (old : State) (run : List Event) (new : State) → AllRoom old → Run old run new → AllRoom new
 run_room old [] new all happens = subst AllRoom (sym happens) all
 run_room old (event ∷ run) new all happens = run_room happens.0 run new (step_room old happens.0 event all happens.1) happens.2
 
-room_initial : (tests : List RunTest) → AllByRecursion (λ test. 0 < test.tries) tests → AllByRecursion HasRoom (map waiting tests)
+pub room_initial : (tests : List RunTest) → AllByRecursion (λ test. 0 < test.tries) tests → AllByRecursion HasRoom (map waiting tests)
 room_initial [] tries = tt
 room_initial (test ∷ tests) tries = (let some = tries.0 in omega (arith, some), room_initial tests tries.1)
 

@@ -1,6 +1,7 @@
 -- The laws over whole runs, and over the first success among tries.
-use Rattle.std.specs.Prelude.{◌≡◌, ◌↔◌, ℕ, ◌<◌, ◌≤◌, Bool, true, false, List, [], ◌∷◌, ◌++◌, Option, None, Some, Ok, Err, length, count_by, is_some, nat_le, if◌then◌else◌}
+use Rattle.std.specs.Prelude.{◌≡◌, ◌↔◌, ℕ, ◌<◌, ◌≤◌, Bool, true, false, List, [], ◌∷◌, ◌++◌, Option, None, Some, Ok, Err, length, count_by, is_some, nat_le, slice_get, if◌then◌else◌}
 use Rattle.std.specs.List.{AllByRecursion}
+use Rattle.std.specs.Option.{IsSomeAnd}
 use Rattle.nextest_run_events_results.specs.Cancel.{gravity}
 use Rattle.nextest_run_events_results.specs.Result.{is_success}
 use Rattle.nextest_run_events_results.specs.declared.cancel_reason.CancelReason.{CancelReason}
@@ -14,7 +15,7 @@ use Rattle.test_runner_core_run_model.specs.Ends.{EndedWhole, final_state}
 use Rattle.test_runner_core_run_model.specs.Finishing.{KeepsReasons}
 use Rattle.test_runner_core_run_model.specs.Runs.{Run, Agrees, IsNoStop, IsNoMilder, is_complete, is_no_stop, most_events}
 use Rattle.test_runner_core_run_model.specs.declared.event.Event.{Event}
-use Rattle.test_runner_core_run_model.specs.declared.event.Event.TheVariants.{ScriptEnded, Started}
+use Rattle.test_runner_core_run_model.specs.declared.event.Event.TheVariants.{ScriptEnded, Started, Ended, Stopped}
 use Rattle.test_runner_core_run_model.specs.declared.step_refusal.StepRefusal.TheVariants as refused
 
 -- any complete run that agrees with an assignment and that nobody told to stop ends with the due
@@ -120,6 +121,26 @@ ReachesAnEnd =
     → IsPlan plan → Run (initial plan) events last → Agrees assigned (initial plan) events
     → (more : List Event) × (end : State) × AllByRecursion IsNoStop more × (is_complete end ≡ true)
     × Run (initial plan) (events ++ more) end × Agrees assigned (initial plan) (events ++ more)
+
+-- a test of a plan has so many tries that it may have one of this number, from 1
+abbrev pub IsTry : RunPlan → ℕ → ℕ → Type 0
+IsTry plan test number = (0 < number) × IsSomeAnd (slice_get plan.tests test) (λ it. number ≤ it.tries)
+
+-- an event is one of a plan's scripts or tests, as it is assigned
+abbrev pub IsAssigned : RunPlan → Assignment → Event → Type 0
+IsAssigned plan assigned (ScriptEnded script ending) = (script < plan.scripts) × (ending ≡ assigned.script script)
+IsAssigned plan assigned (Started test) = test < length plan.tests
+IsAssigned plan assigned (Ended test ending) = (number : ℕ) × IsTry plan test number × (ending ≡ assigned.attempt test number)
+IsAssigned plan assigned (Stopped reason) = ⊥
+
+-- whatever is assigned, there is a complete run that agrees with it, each event of which is as it
+-- is assigned
+abbrev pub ReachesAnAssignedEnd : Type 0
+ReachesAnAssignedEnd =
+    (plan : RunPlan) (assigned : Assignment)
+    → IsPlan plan
+    → (events : List Event) × (last : State) × Run (initial plan) events last × Agrees assigned (initial plan) events
+    × (is_complete last ≡ true) × AllByRecursion (IsAssigned plan assigned) events
 
 -- in a run from its beginning no test is over under a reason before a reason stands
 abbrev pub HasReasonsFirst : Type 0

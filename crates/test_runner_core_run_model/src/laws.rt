@@ -1,6 +1,6 @@
 //! What holds of all runs, and of the first success among tries. Each function does nothing, and
 //! its contract is the law.
-ghost use Rattle.test_runner_core_run_model.specs.Laws.{EndsWithDueStatus, AgreesWhereCut, EndsNoMilder, HasFourExactlyWhereDue, RefusesScripts, RefusesStarts, KeepsAReason, SucceedsWhole, EndsInOneState, ReachesTheOneState, StopsWhereDue, HasNext, HasAtMost, ReachesAnEnd, HasReasonsFirst, FindsFirstSuccess, HasOneFirstSuccess};
+ghost use Rattle.test_runner_core_run_model.specs.Laws.{EndsWithDueStatus, AgreesWhereCut, EndsNoMilder, HasFourExactlyWhereDue, RefusesScripts, RefusesStarts, KeepsAReason, SucceedsWhole, EndsInOneState, ReachesTheOneState, StopsWhereDue, HasNext, HasAtMost, ReachesAnEnd, ReachesAnAssignedEnd, HasReasonsFirst, FindsFirstSuccess, HasOneFirstSuccess};
 ghost use Rattle.test_runner_core_run_model.specs.WorkedRows.{WorkedRows};
 
 /// Any complete run that agrees with an assignment and holds no stop event ends with that
@@ -55,6 +55,12 @@ pub fn no_dead_end()
     ensures next { HasNext }
     ensures at_most { HasAtMost }
     ensures end { ReachesAnEnd }
+{}
+
+/// Whatever is assigned, there is a complete run that agrees with it and that nobody tells to stop,
+/// each event of which is one of the plan's, as it is assigned.
+pub fn assigned_end()
+    ensures { ReachesAnAssignedEnd }
 {}
 
 /// In a run from its beginning no test is over under a reason before a reason stands. That is the

@@ -39,8 +39,8 @@ loop-source-preserved g c =
       kept = kept_at Is IsSpec g.R.Languages.is_too_deep (source_checks features) all place source.now within at c.loop-source.invariant.kept read.0;
       tree = tree_more (table_view c.args.built_in.now) (members_view c.await_highest.new.self) (members_view c.in_ok-read.read.tree) all place source.now file within at refl
           (ap (λ (it : List Entry). table (members_view it)) c.await_highest.ensures ∙ c.loop-source.invariant.tree) read.1.tree;
-      told = kept_more c.args.kept.now c.loop-source.kept c.read_source.new.kept all place source.now.path source.now file within at refl
-          refl c.loop-source.invariant.told c.in_ok-read.ensures.kept;
+      told = kept_more c.args.kept.now c.loop-source.kept c.read_source.new.kept all place source.now file within at refl
+          c.loop-source.invariant.told c.in_ok-read.ensures.kept;
       rules = zip_at (λ source own. AreReadInFile Is IsSpec (rules_of_source source) own) all c.loop-source.rules.items c.push.new.self.items place source.now c.in_ok-read.read.rules within at
           c.loop-source.invariant.rules read.1.rules c.in_ok-push.ensures.items;
     }

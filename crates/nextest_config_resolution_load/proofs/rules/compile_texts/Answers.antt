@@ -42,7 +42,7 @@ returns-in_err-filter g c =
     passes_on Is IsSpec IsTooDeep (IsCompiledRule Is IsSpec texts) (text_checks c.args.wraps id texts) told c.from_residual-in_err-filter.result
     (refuses_behind Is IsSpec IsTooDeep host (target ++ (own ++ (default ++ listing))) told c.in_ok-host.ensures.0
     (refuses_behind Is IsSpec IsTooDeep target (own ++ (default ++ listing)) told c.in_ok-target.ensures.0
-    (refuses_before Is IsSpec IsTooDeep own (default ++ listing) told c.in_err-filter.ensures)))
+    (refuses_before Is IsSpec IsTooDeep own (default ++ listing) told (c.in_err-filter.ensures tt))))
     c.from_residual-in_err-filter.ensures.1
 
 pub returns-in_err-default_filter : goal.returns-in_err-default_filter
@@ -61,8 +61,8 @@ returns-in_err-default_filter g c =
     passes_on Is IsSpec IsTooDeep (IsCompiledRule Is IsSpec texts) (text_checks c.args.wraps id texts) told c.from_residual-in_err-default_filter.result
     (refuses_behind Is IsSpec IsTooDeep host (target ++ (own ++ (default ++ listing))) told c.in_ok-host.ensures.0
     (refuses_behind Is IsSpec IsTooDeep target (own ++ (default ++ listing)) told c.in_ok-target.ensures.0
-    (refuses_behind Is IsSpec IsTooDeep own (default ++ listing) told c.in_ok-filter.ensures.0
-    (refuses_before Is IsSpec IsTooDeep default listing told c.in_err-default_filter.ensures))))
+    (refuses_behind Is IsSpec IsTooDeep own (default ++ listing) told (c.in_ok-filter.ensures tt).0
+    (refuses_before Is IsSpec IsTooDeep default listing told (c.in_err-default_filter.ensures tt)))))
     c.from_residual-in_err-default_filter.ensures.1
 
 pub returns-in_err-check_listing : goal.returns-in_err-check_listing
@@ -81,6 +81,6 @@ returns-in_err-check_listing g c =
     passes_on Is IsSpec IsTooDeep (IsCompiledRule Is IsSpec texts) (text_checks c.args.wraps id texts) told c.from_residual-in_err-check_listing.result
     (refuses_behind Is IsSpec IsTooDeep host (target ++ (own ++ (default ++ listing))) told c.in_ok-host.ensures.0
     (refuses_behind Is IsSpec IsTooDeep target (own ++ (default ++ listing)) told c.in_ok-target.ensures.0
-    (refuses_behind Is IsSpec IsTooDeep own (default ++ listing) told c.in_ok-filter.ensures.0
-    (refuses_behind Is IsSpec IsTooDeep default listing told c.in_ok-default_filter.ensures.0 (c.in_err-check_listing.ensures c.in_ok-filter.ensures.1)))))
+    (refuses_behind Is IsSpec IsTooDeep own (default ++ listing) told (c.in_ok-filter.ensures tt).0
+    (refuses_behind Is IsSpec IsTooDeep default listing told (c.in_ok-default_filter.ensures tt).0 (c.in_err-check_listing.ensures (c.in_ok-filter.ensures tt).1)))))
     c.from_residual-in_err-check_listing.ensures.1

@@ -1,4 +1,4 @@
-use Rattle.std.proofs.Common.{◌≡◌, List, ℕ, [], Option, Ok, Err, IfSome, sym, subst, ap, ◌∙◌}
+use Rattle.std.proofs.Common.{◌≡◌, List, ℕ, ◌+◌, ◌≤◌, [], length, Option, Ok, Err, IfSome, sym, subst, ap, ◌∙◌}
 use Rattle.test_runner_core_streams.specs.Left.{OfBytes}
 use Rattle.test_runner_core_inputs.specs.Calls.{Reads}
 use Rattle.test_runner_core_inputs.specs.Reading.{read_inputs}
@@ -6,13 +6,14 @@ use Rattle.test_runner_core_inputs.specs.declared.inputs_error.InputsError.{Inpu
 use Rattle.test_runner_core_inputs.specs.declared.inputs_error.InputsRefusal.TheVariants as unread
 use Rattle.test_runner_core_log_reader.specs.Calls.{PartsAtFirst}
 use Rattle.test_runner_core_log_reader.specs.Cursor.{Cursor, items_ahead}
+use Rattle.test_runner_core_log_reader.specs.Feeds.{before_feed}
 use Rattle.test_runner_core_reporter.proofs.Told.{front_none}
 use Rattle.test_runner_core.specs.Inside.{IsGotOf}
-use Rattle.test_runner_core.specs.Outcome.{StreamBegun, StreamComposed, StreamGotTo, table_of}
+use Rattle.test_runner_core.specs.Outcome.{HasNoPlan, StreamBegun, StreamComposed, StreamGotTo, table_of}
 use Rattle.test_runner_core.specs.Report.{Begun, Composed, HasSoFar, OfLeft, refused_inputs}
 use Rattle.test_runner_core.proofs.Headline.{stream_headline}
 use Rattle.test_runner_core.proofs.Reported.{reports_as}
-use Rattle.test_runner_core.proofs.Stream.{begun_nothing, first_line_alone, first_line_fails, refused_begun, refused_long, refused_parts, refused_stream, refused_ungot, stream_begun, stream_composed, stream_got}
+use Rattle.test_runner_core.proofs.Stream.{begun_nothing, first_line_alone, first_line_fails, refused_begun, refused_long, refused_parts, refused_stream, refused_ungot, stream_begun, stream_composed, stream_got, whatever_is_known}
 use Rattle.test_runner_core.proofs.entry.judge_stream.Goals as goal
 
 pub returns-in_err-lines-clause-reports : goal.returns-in_err-lines-clause-reports
@@ -43,7 +44,28 @@ returns-in-Ok-clause-unread g c =
     let rest = g.R.LogReader.left c.behind_first_line.new.reader in
     let parts = subst (λ (o : Option Cursor). PartsAtFirst known o rest) c.in-Some.is c.in_ok-lines.ensures.lines in
     let read : read_inputs c.in-Some.lines.line ≡ Ok c.in-Ok.inputs = ap read_inputs (sym c.line.ensures) ∙ c.in-Ok.ensures.exact in
-    first_line_alone c.in-Ok.inputs known rest c.in-Some.lines _ _ _ parts read c.behind_first_line.ensures.reads c.judge_by_table.ensures.unread
+    first_line_alone c.in-Ok.inputs known rest c.in-Some.lines _ _ (λ bytes. g.R.LogReader.calls c.args.input.now + length (before_feed bytes) + 1) parts read
+    c.behind_first_line.ensures.reads_known c.judge_by_table.ensures.unread
+
+pub returns-in_err-lines-clause-unread : goal.returns-in_err-lines-clause-unread
+returns-in_err-lines-clause-unread g c =
+    whatever_is_known (g.R.LogReader.left c.args.input.now) (λ bytes. HasNoPlan (read_inputs (before_feed bytes)))
+    (λ bytes. g.R.LogReader.calls c.behind_first_line.new.reader ≤ g.R.LogReader.calls c.args.input.now + length (before_feed bytes) + 1) c.behind_first_line.ensures.reads_known
+
+pub returns-in_default-clause-unread : goal.returns-in_default-clause-unread
+returns-in_default-clause-unread g c =
+    whatever_is_known (g.R.LogReader.left c.args.input.now) (λ bytes. HasNoPlan (read_inputs (before_feed bytes)))
+    (λ bytes. g.R.LogReader.calls c.behind_first_line.new.reader ≤ g.R.LogReader.calls c.args.input.now + length (before_feed bytes) + 1) c.behind_first_line.ensures.reads_known
+
+pub returns-in-Err-Refused-clause-unread : goal.returns-in-Err-Refused-clause-unread
+returns-in-Err-Refused-clause-unread g c =
+    whatever_is_known (g.R.LogReader.left c.args.input.now) (λ bytes. HasNoPlan (read_inputs (before_feed bytes)))
+    (λ bytes. g.R.LogReader.calls c.behind_first_line.new.reader ≤ g.R.LogReader.calls c.args.input.now + length (before_feed bytes) + 1) c.behind_first_line.ensures.reads_known
+
+pub returns-clause-unread : goal.returns-clause-unread
+returns-clause-unread g c =
+    whatever_is_known (g.R.LogReader.left c.args.input.now) (λ bytes. HasNoPlan (read_inputs (before_feed bytes)))
+    (λ bytes. g.R.LogReader.calls c.behind_first_line.new.reader ≤ g.R.LogReader.calls c.args.input.now + length (before_feed bytes) + 1) c.behind_first_line.ensures.reads_known
 
 pub returns-in-Err-Refused-clause-reports : goal.returns-in-Err-Refused-clause-reports
 returns-in-Err-Refused-clause-reports g c =
