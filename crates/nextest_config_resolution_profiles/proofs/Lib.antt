@@ -1,6 +1,7 @@
 pub mod Askable
 pub mod Chained
 pub mod Columns
+pub mod Copies
 pub mod DefaultKept
 pub mod Enabling
 pub mod Ending

@@ -43,6 +43,7 @@ one_of_name tests one other distinct (i, within, is) (j, inside, also) same = el
   where
     first : (k : ℕ) → k < length tests → {x : Test} → get_or tests k x ≡ x → (d : Test) → get_or tests k d ≡ x
     first k within {x} is d = get_or_default tests k d x within ∙ is
+
     apart : (k m : ℕ) (y : Test) → IsDistinct have_one_name tests → k < m → m < length tests → {x : Test} → ((d : Test) → get_or tests k d ≡ x) → get_or tests m y ≡ y → have_one_name x y ≡ false
     apart k m y distinct below within {x} at is =
         ap (λ (t : Test). have_one_name t y) (sym (at y)) ∙ ap (have_one_name (get_or tests k y)) (sym is) ∙ apart_from_distinct have_one_name tests k m y distinct below within
@@ -65,15 +66,19 @@ precomputed_members {F} OnTest S profile tests it distinct kept = record { hande
         let same : of.handed ≡ test = one_of_name tests of.handed test distinct of.among among of.one in
         let also = subst (λ (t : Test). IsGroupBy (Holds OnTest profile.default_filter.filter.now t) profile.rules of.group) same of.is in
         of.named ∙ ap text_of (one_group (Holds OnTest profile.default_filter.filter.now test) profile.rules of.group group also is)
+
     by_case : (test : Test) (group : TestGroup) → Contains tests test → IsGroupBy (Holds OnTest profile.default_filter.filter.now test) profile.rules group
         → IsOfHanded OnTest profile tests test (group_name it test) ⊎ (All (λ handed. have_one_name handed test ≡ false) tests × (group_name it test ≡ codes "@global")) → group_name it test ≡ text_of group
     by_case test group among is (inl of) = of_named test group among is of
     by_case test group among is (inr none) = absurd (false≢true (sym (All-contains (λ handed. have_one_name handed test ≡ false) tests test none.0 among) ∙ has_own_name test))
+
     handed : (test : Test) (group : TestGroup) → Contains tests test → IsGroupBy (Holds OnTest profile.default_filter.filter.now test) profile.rules group → group_name it test ≡ text_of group
     handed test group among is = by_case test group among is (kept test)
+
     global : (test : Test) → All (λ handed. have_one_name handed test ≡ false) tests
         → IsOfHanded OnTest profile tests test (group_name it test) ⊎ (All (λ handed. have_one_name handed test ≡ false) tests × (group_name it test ≡ codes "@global")) → group_name it test ≡ codes "@global"
     global test none (inl of) = absurd (false≢true (sym (All-contains (λ handed. have_one_name handed test ≡ false) tests of.handed none of.among) ∙ of.one))
     global test none (inr also) = also.1
+
     others : (test : Test) → All (λ handed. have_one_name handed test ≡ false) tests → group_name it test ≡ codes "@global"
     others test none = global test none (kept test)

@@ -79,6 +79,30 @@ impl<'c, F: Filters, S: Specs> Model for EarlyProfile<'c, F, S> {
         (rules_in it.rules.items) (rules_in it.script_rules.items) };
 }
 
+impl<'c, F: Filters, S: Specs> Clone for EarlyProfile<'c, F, S> {
+    ghost use Rattle.std.specs.Prelude.{◌≡◌};
+
+    ghost is_clone = { λ original copy. copy ≡ original };
+
+    fn clone(&self) -> Result<EarlyProfile<'c, F, S>, AllocError> {
+        let store_dir = self.store_dir.clone()?;
+        let chain = self.chain.clone()?;
+        let default_filter = self.default_filter.clone()?;
+        let rules = self.rules.clone()?;
+        let script_rules = self.script_rules.clone()?;
+        Ok(EarlyProfile {
+            name: self.name,
+            store_dir,
+            chain,
+            default_filter,
+            rules,
+            script_rules,
+            groups: self.groups,
+            scripts: self.scripts,
+        })
+    }
+}
+
 impl<'c, F: Filters, S: Specs> EarlyProfile<'c, F, S> {
     /// Its name.
     pub fn name(&self) -> &'c str

@@ -80,6 +80,18 @@ impl<'c> Model for SetupScripts<'c> {
     ghost view = { λ it. map seen_script it.scripts.items };
 }
 
+impl<'c> Clone for SetupScripts<'c> {
+    ghost use Rattle.std.specs.Prelude.{◌≡◌};
+
+    ghost is_clone = { λ original copy. copy ≡ original };
+
+    fn clone(&self) -> Result<SetupScripts<'c>, AllocError> {
+        Ok(SetupScripts {
+            scripts: self.scripts.clone()?,
+        })
+    }
+}
+
 impl<'c> SetupScripts<'c> {
     /// How many there are.
     pub fn len(&self) -> usize

@@ -99,6 +99,30 @@ impl<'c, F: Filters, S: Specs> Model for EvaluatableProfile<'c, F, S> {
         (rules_in it.rules.items) (rules_in it.script_rules.items) };
 }
 
+impl<'c, F: Filters, S: Specs> Clone for EvaluatableProfile<'c, F, S> {
+    ghost use Rattle.std.specs.Prelude.{◌≡◌};
+
+    ghost is_clone = { λ original copy. copy ≡ original };
+
+    fn clone(&self) -> Result<EvaluatableProfile<'c, F, S>, AllocError> {
+        let store_dir = self.store_dir.clone()?;
+        let chain = self.chain.clone()?;
+        let default_filter = self.default_filter.clone()?;
+        let rules = self.rules.clone()?;
+        let script_rules = self.script_rules.clone()?;
+        Ok(EvaluatableProfile {
+            name: self.name,
+            store_dir,
+            chain,
+            default_filter,
+            rules,
+            script_rules,
+            groups: self.groups,
+            scripts: self.scripts,
+        })
+    }
+}
+
 impl<'c, F: Filters, S: Specs> EvaluatableProfile<'c, F, S> {
     /// The profiles that it is read from, lent: itself, its parents one after another, and
     /// `default`.

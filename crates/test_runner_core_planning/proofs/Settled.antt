@@ -87,13 +87,6 @@ each_push P [] x all one (suc place) = tt
 each_push P (y ∷ xs) x all one zero = all 0
 each_push P (y ∷ xs) x all one (suc place) = each_push (λ n. P (suc n)) xs x (λ n. all (suc n)) one place
 
--- what an earlier place has is right for one with the same row
-pub again : (Has : List Bool → PlanSettings → Type 0) (held : Columns) (each lent : List PlanSettings) (before place : ℕ) (it : PlanSettings) → lent ≡ each
-    → ((k : ℕ) → IfSome (slice_get each k) (Has (held_row k held))) → (slice_get lent before ≡ Some it) × (held_row before held ≡ held_row place held) → Has (held_row place held) it
-again Has held each lent before place it same all both =
-    subst (λ (row : List Bool). Has row it) both.1
-    (subst (λ (found : Option PlanSettings). IfSome found (Has (held_row before held))) (subst (λ (them : List PlanSettings). slice_get them before ≡ Some it) same both.0) (all before))
-
 -- the tests of a binary, where each has its settings
 pub settled_names : (of_test : Test → PlanSettings) (binary : Binary) (names : List (List ℕ)) (settings : List PlanSettings) → length settings ≡ length names
     → ((place : ℕ) (name : List ℕ) (it : PlanSettings) → slice_get names place ≡ Some name → slice_get settings place ≡ Some it → it ≡ of_test (seen_test binary name))
