@@ -1,4 +1,6 @@
 // A whole configuration.
+ghost use Rattle.std.specs.Prelude.{◌≡◌, IfOk};
+
 use crate::chains::{Chained, all_names, chain_at, place_of};
 use crate::config_languages::ConfigLanguages;
 use crate::early_profile::EarlyProfile;
@@ -16,14 +18,15 @@ use nextest_config_resolution_overrides::NamedGroup;
 use nextest_config_resolution_scripts::ScriptConfig;
 use nextest_config_resolution_sources::{ConfigFileSelection, ConfigPaths, ConfigSource};
 use nextest_text::Text;
-use std::alloc::Global;
+use std::alloc::{AllocError, Global};
 use std::marker::Model;
+use std::rc::Rc;
 
 /// A whole configuration: what its sources come to, each over the lower ones and over what is built
 /// in. Tests are told apart by filters `F`, and builds by specs `S`.
 pub struct NextestConfig<F: Filters, S: Specs> {
     root: Text,
-    loaded: LoadedConfig<F, S>,
+    loaded: Rc<LoadedConfig<F, S>>,
 }
 
 // One call drops it, whoever holds it.
@@ -38,12 +41,26 @@ impl<F: Filters, S: Specs> Model for NextestConfig<F, S> {
 
     ghost Value = { Whole F S };
 
-    ghost view = { λ it. record { root = it.root; loaded = it.loaded } };
+    ghost view = { λ it. record { root = it.root; loaded = it.loaded.value } };
 
     // The profiles inherit as they may, their names rise, `default` is among them and sets a
     // default filter, the default filters of all are read and serve as such, no rule asks for
     // groups, and there is a directory of the store.
-    ghost invariant = { λ it. IsSound F.serves_as_default F.asks_groups it.loaded };
+    ghost invariant = { λ it. IsSound F.serves_as_default F.asks_groups it.loaded.value };
+}
+
+impl<F: Filters, S: Specs> Clone for NextestConfig<F, S> {
+    ghost use Rattle.std.specs.Prelude.{◌≡◌};
+
+    ghost is_clone = { λ original copy. copy ≡ original };
+
+    // What was loaded is shared.
+    fn clone(&self) -> Result<NextestConfig<F, S>, AllocError> {
+        Ok(NextestConfig {
+            root: self.root.clone()?,
+            loaded: self.loaded.clone()?,
+        })
+    }
 }
 
 impl<F: Filters, S: Specs> NextestConfig<F, S> {
@@ -74,7 +91,7 @@ impl<F: Filters, S: Specs> NextestConfig<F, S> {
         match load::<ConfigLanguages<F, S>>(alloc, &lowest, cx, sources, experimental) {
             Ok(loaded) => Ok(NextestConfig {
                 root: Text::from_str(alloc, root)?,
-                loaded,
+                loaded: shared(alloc, loaded)?,
             }),
             Err(error) => Err(error),
         }
@@ -110,7 +127,10 @@ impl<F: Filters, S: Specs> NextestConfig<F, S> {
             experimental,
             warnings,
         ) {
-            Ok(loaded) => Ok(NextestConfig { root, loaded }),
+            Ok(loaded) => Ok(NextestConfig {
+                root,
+                loaded: shared(alloc, loaded)?,
+            }),
             Err(error) => Err(error),
         }
     }
@@ -260,4 +280,14 @@ impl<F: Filters, S: Specs> NextestConfig<F, S> {
             None => unreachable!(),
         }
     }
+}
+
+// What was loaded, in memory that copies share.
+fn shared<F: Filters, S: Specs>(
+    alloc: Global,
+    loaded: LoadedConfig<F, S>,
+) -> Result<Rc<LoadedConfig<F, S>>, AllocError>
+    ensures { IfOk result (λ it. it.value ≡ loaded) }
+{
+    Ok(Rc::new(alloc, loaded)?)
 }

@@ -2,6 +2,7 @@
 ghost use Rattle.std.specs.Prelude.{◌≡◌, None, Some};
 ghost use Rattle.std.specs.Option.{option_copied};
 
+use crate::test_settings::both;
 use nextest_config_resolution_scripts::WrapperScriptConfig;
 use std::alloc::AllocError;
 
@@ -20,7 +21,7 @@ impl<'p, Source: Copy> Clone for ListSettings<'p, Source> {
 
     fn clone(&self) -> Result<ListSettings<'p, Source>, AllocError> {
         Ok(ListSettings {
-            list_wrapper: self.list_wrapper,
+            list_wrapper: both(&self.list_wrapper),
         })
     }
 }

@@ -62,7 +62,23 @@ impl<'p, Source: Copy> Clone for TestSettings<'p, Source> {
     ghost is_clone = { λ original copy. copy ≡ original };
 
     fn clone(&self) -> Result<TestSettings<'p, Source>, AllocError> {
-        Ok(TestSettings { ..*self })
+        Ok(TestSettings {
+            priority: both(&self.priority),
+            threads_required: both(&self.threads_required),
+            run_wrapper: both(&self.run_wrapper),
+            run_extra_args: both(&self.run_extra_args),
+            retries: both(&self.retries),
+            flaky_result: both(&self.flaky_result),
+            slow_timeout: both(&self.slow_timeout),
+            leak_timeout: both(&self.leak_timeout),
+            test_group: both(&self.test_group),
+            success_output: both(&self.success_output),
+            failure_output: both(&self.failure_output),
+            junit_store_success_output: both(&self.junit_store_success_output),
+            junit_store_failure_output: both(&self.junit_store_failure_output),
+            junit_report_skipped: both(&self.junit_report_skipped),
+            junit_flaky_fail_status: both(&self.junit_flaky_fail_status),
+        })
     }
 }
 
@@ -171,4 +187,11 @@ impl<'p, Source> TestSettings<'p, Source> {
     {
         self.junit_flaky_fail_status.0
     }
+}
+
+// A value, and what is kept of where it is taken from.
+pub(crate) fn both<T: Copy, Source: Copy>(setting: &(T, Source)) -> (T, Source)
+    ensures { result ≡ setting.now }
+{
+    (setting.0, setting.1)
 }
