@@ -239,13 +239,14 @@ impl<F: Filters, S: Specs> NextestConfig<F, S> {
         ensures exact { IsProfile self.now name.now result }
         ensures rises { KnownRise result }
     {
-        let profiles = self.loaded.profiles.as_slice();
+        let loaded = self.loaded();
+        let profiles = loaded.profiles.as_slice();
         match place_of(profiles, name) {
             Some(place) => {
-                let filters = self.loaded.default_filters.as_slice();
-                let all = self.loaded.rules.as_slice();
-                let all_scripts = self.loaded.script_rules.as_slice();
-                let groups = self.loaded.groups.as_slice();
+                let filters = loaded.default_filters.as_slice();
+                let all = loaded.rules.as_slice();
+                let all_scripts = loaded.script_rules.as_slice();
+                let groups = loaded.groups.as_slice();
                 let Chained {
                     values,
                     default_filter,
@@ -261,7 +262,7 @@ impl<F: Filters, S: Specs> NextestConfig<F, S> {
                     rules,
                     script_rules,
                     groups,
-                    scripts: &self.loaded.scripts,
+                    scripts: &loaded.scripts,
                 })
             }
             None => Err(ProfileError::NotFound(ProfileNotFound {
@@ -269,6 +270,13 @@ impl<F: Filters, S: Specs> NextestConfig<F, S> {
                 known: all_names(alloc, profiles)?,
             })),
         }
+    }
+
+    // What was loaded, lent.
+    fn loaded(&self) -> &LoadedConfig<F, S>
+        ensures { result.now ≡ self.now.loaded }
+    {
+        &self.loaded
     }
 
     // The directory of the store.

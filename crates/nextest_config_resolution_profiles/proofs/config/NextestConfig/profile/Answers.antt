@@ -17,10 +17,10 @@ returns-in_ok-dir_in_store-in-Some g c =
     let whole = c.args.self.now in
     let name = c.args.name.now in
     let it = c.in_ok-values-in-Some.field-0 in
-    let same : profiles ≡ whole.loaded.profiles = cc (c.as_slice-profiles.ensures, ap (λ whole. whole.loaded.profiles) c.self.view_is) in
-    let read : filters ≡ whole.loaded.default_filters = cc (c.as_slice-filters.ensures, ap (λ whole. whole.loaded.default_filters) c.self.view_is) in
-    let ruled : all ≡ whole.loaded.rules = cc (c.as_slice-all.ensures, ap (λ whole. whole.loaded.rules) c.self.view_is) in
-    let scripted : scripts ≡ whole.loaded.script_rules = cc (c.as_slice-all_scripts.ensures, ap (λ whole. whole.loaded.script_rules) c.self.view_is) in
+    let same : profiles ≡ whole.loaded.profiles = c.as_slice-profiles.ensures ∙ ap (λ it. it.profiles) c.loaded-loaded.ensures in
+    let read : filters ≡ whole.loaded.default_filters = c.as_slice-filters.ensures ∙ ap (λ it. it.default_filters) c.loaded-loaded.ensures in
+    let ruled : all ≡ whole.loaded.rules = c.as_slice-all.ensures ∙ ap (λ it. it.rules) c.loaded-loaded.ensures in
+    let scripted : scripts ≡ whole.loaded.script_rules = c.as_slice-all_scripts.ensures ∙ ap (λ it. it.script_rules) c.loaded-loaded.ensures in
     let named = subst (λ n. IsChained {F = g.row.F.Denot} {S = g.row.S.Denot} profiles filters all scripts n it) c.in-Some.ensures.found c.in_ok-values-in-Some.ensures in
     let chained = subst (λ (rs : List (LoadedScriptRule g.row.F.Denot g.row.S.Denot)). IsChained whole.loaded.profiles whole.loaded.default_filters whole.loaded.rules rs name it) scripted
     (subst (λ (rs : List (LoadedOverride g.row.F.Denot g.row.S.Denot)). IsChained whole.loaded.profiles whole.loaded.default_filters rs scripts name it) ruled
@@ -29,7 +29,7 @@ returns-in_ok-dir_in_store-in-Some g c =
     let called : c.as_str-name.result.now ≡ name =
     cc (c.as_str-name.ensures, name_is profiles c.in-Some.place c.index-profiles-place.result c.in-Some.ensures.within, c.in-Some.ensures.found) in
     let root : c.as_str.result.now ≡ whole.root = cc (c.as_str.ensures, ap (λ whole. whole.root) c.self.view_is) in
-    let groups : c.as_slice-groups.result.now ≡ whole.loaded.groups = cc (c.as_slice-groups.ensures, ap (λ whole. whole.loaded.groups) c.self.view_is) in
+    let groups : c.as_slice-groups.result.now ≡ whole.loaded.groups = c.as_slice-groups.ensures ∙ ap (λ it. it.groups) c.loaded-loaded.ensures in
     let dir = c.store.result.now in
     record {
       exact = record {
@@ -40,19 +40,22 @@ returns-in_ok-dir_in_store-in-Some g c =
         ruled = chained.ruled;
         scripted = chained.scripted;
         grouped = groups;
-        defined = ap (λ whole. whole.loaded.scripts) c.self.view_is;
+        defined = ap (λ it. it.scripts) c.loaded-loaded.ensures;
       };
       rises = tt;
     }
 
 pub returns-in_ok-all_names-in-None-clause-rises : goal.returns-in_ok-all_names-in-None-clause-rises
 returns-in_ok-all_names-in-None-clause-rises g c =
-    known_rise c.self.inside.loaded.profiles c.in_ok-all_names-in-None.field-0 c.self.invariant.rises
-    (c.in_ok-all_names-in-None.ensures ∙ ap (map (λ (it : NamedProfile). it.name)) c.as_slice-profiles.ensures)
+    let loaded = c.self.inside.loaded.value in
+    let same : c.loaded-loaded.result.now ≡ loaded = cc (c.loaded-loaded.ensures, ap (λ whole. whole.loaded) c.self.view_is) in
+    known_rise loaded.profiles c.in_ok-all_names-in-None.field-0 c.self.invariant.rises
+    (c.in_ok-all_names-in-None.ensures ∙ ap (map (λ (it : NamedProfile). it.name)) (c.as_slice-profiles.ensures ∙ ap (λ it. it.profiles) same))
 
 pub invariant_of-result : goal.invariant_of-result
 invariant_of-result g c =
-    let loaded = c.self.inside.loaded in
+    let loaded = c.self.inside.loaded.value in
+    let same : c.loaded-loaded.result.now ≡ loaded = cc (c.loaded-loaded.ensures, ap (λ whole. whole.loaded) c.self.view_is) in
     let profiles = c.as_slice-profiles.result.now in
     let filters = c.as_slice-filters.result.now in
     let all = c.as_slice-all.result.now in
@@ -60,7 +63,7 @@ invariant_of-result g c =
     let it = c.in_ok-values-in-Some.field-0 in
     let name = name_at (all_of profiles) c.in-Some.place in
     early_askable g.F.Filters.serves_as_default g.F.Filters.asks_groups loaded name it c.self.invariant
-    (subst (λ (rs : List (LoadedScriptRule g.row.F.Denot g.row.S.Denot)). IsChained loaded.profiles loaded.default_filters loaded.rules rs name it) c.as_slice-all_scripts.ensures
-    (subst (λ (rs : List (LoadedOverride g.row.F.Denot g.row.S.Denot)). IsChained loaded.profiles loaded.default_filters rs scripts name it) c.as_slice-all.ensures
-    (subst (λ (fs : List (Option g.row.F.Denot)). IsChained loaded.profiles fs all scripts name it) c.as_slice-filters.ensures
-    (subst (λ (ps : List NamedProfile). IsChained ps filters all scripts name it) c.as_slice-profiles.ensures c.in_ok-values-in-Some.ensures))))
+    (subst (λ (rs : List (LoadedScriptRule g.row.F.Denot g.row.S.Denot)). IsChained loaded.profiles loaded.default_filters loaded.rules rs name it) (c.as_slice-all_scripts.ensures ∙ ap (λ it. it.script_rules) same)
+    (subst (λ (rs : List (LoadedOverride g.row.F.Denot g.row.S.Denot)). IsChained loaded.profiles loaded.default_filters rs scripts name it) (c.as_slice-all.ensures ∙ ap (λ it. it.rules) same)
+    (subst (λ (fs : List (Option g.row.F.Denot)). IsChained loaded.profiles fs all scripts name it) (c.as_slice-filters.ensures ∙ ap (λ it. it.default_filters) same)
+    (subst (λ (ps : List NamedProfile). IsChained ps filters all scripts name it) (c.as_slice-profiles.ensures ∙ ap (λ it. it.profiles) same) c.in_ok-values-in-Some.ensures))))
