@@ -83,7 +83,7 @@ pub enum PlatformSide {
 }
 
 /// Why a configuration is refused.
-#[derive(Debug, PartialEq, Eq, Error)]
+#[derive(Clone, Debug, PartialEq, Eq, Error)]
 pub enum LoadFault {
     /// A source couldn't be read, or isn't there though it was named.
     #[error("{path}: the file wasn't read: {cause}")]

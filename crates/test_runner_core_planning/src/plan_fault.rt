@@ -17,7 +17,7 @@ const REFUSED: u8 = 96;
 const REQUIRED_VERSION_NOT_MET: u8 = 92;
 
 /// Why inputs have no plan, in the order in which the reasons are looked for.
-#[derive(Debug, PartialEq, Eq, Error)]
+#[derive(Clone, Debug, PartialEq, Eq, Error)]
 pub enum PlanFault {
     /// Two packages have one id.
     #[error("RepeatedPackage")]
