@@ -4,7 +4,7 @@ use thiserror::Error;
 
 /// Why profiles are refused. Each reason is looked for in all profiles before the next, in this
 /// order, and names the first profile that it fits.
-#[derive(Debug, PartialEq, Eq, Error)]
+#[derive(Clone, Debug, PartialEq, Eq, Error)]
 pub enum InheritanceFault {
     /// A profile whose name is `default`, or begins with `default-`, sets a parent.
     #[error("profile `{profile}` inherits, but `default` and names that begin with `default-` are reserved and can't")]

@@ -108,13 +108,16 @@ stands index tests id name place distinct same = first_named tests id name place
   where
     length_index : length index ≡ length tests
     length_index = sym (length-map index name_of) ∙ ap length same ∙ length_names tests
+
     lent : PlanTest → TestInstanceId
     lent test = record { binary_id = record { ref_ptr = (0, 0); now = test.instance.binary_id }; test_name = record { ref_ptr = (0, 0); now = test.instance.test_name } }
+
     at : (k : ℕ) (test : PlanTest) → k < length tests → (get_or tests k test).instance ≡ name_of (get_or index k (lent test))
     at k test inside =
         sym (get_or-map (λ (t : PlanTest). t.instance) tests k test test.instance inside)
         ∙ ap (λ (them : List OwnedTestInstanceId). get_or them k test.instance) (sym same)
         ∙ get_or-map name_of index k (lent test) test.instance (omega (arith, inside, length_index))
+
     apart : (test : PlanTest) → place < length tests → has id name (get_or tests place test) ≡ true → (j : ℕ) → j < place → has id name (get_or tests j test) ≡ false
     apart test within here j below =
         ap (is_named id name) (at j test (omega (arith, below, within)))
