@@ -19,3 +19,4 @@ mod Aside
 mod Isolated
 mod Statuses
 pub mod SomeReport
+mod SomeLog

@@ -7,6 +7,7 @@ pub mod Report
 pub mod Faults
 pub mod Check
 pub mod Laws
+pub mod SomeLog
 pub mod Inside
 -- how a run is reported
 pub use Rattle.test_runner_core_reporter.specs.Parts

@@ -1,6 +1,7 @@
 //! What holds of every run of a log. Each function does nothing, and its contract is the law. The
 //! laws over runs hold of the run of each plan that is built (`built_plan`).
 ghost use Rattle.test_runner_core.specs.Laws.{BuiltIsPlan, EndsNoMilder, EndsWithDueStatus, EndsWithOneText, EndsWithSomeText, HasOneReport, IsolatesReports, StopsWhereDue, SucceedsWhole, NothingTakenBack, WrittenFirst};
+ghost use Rattle.test_runner_core.specs.SomeLog.{EndsSomeLog, RunsSomeLog};
 ghost use Rattle.test_runner_core_planning.specs.Laws.{IsolatesPlans};
 
 pub use test_runner_core_planning::laws::{
@@ -64,6 +65,17 @@ pub fn status_zero()
 /// A plan that was built is a plan of the laws over runs, so these hold of each session of it.
 pub fn built_plan()
     ensures { BuiltIsPlan }
+{}
+
+/// There are logs that run a plan to its end. Whatever is assigned to a plan whose script ids and
+/// test names don't repeat, some lines do, if the start of each of its tests and the assigned end
+/// of each script and of each try has a line that isn't too long: each of the lines is an event and
+/// none is refused, the run agrees with the assignment, it is complete, and nobody tells it to
+/// stop. If together they aren't longer than a log may be, their bytes are a log that is read as
+/// exactly these lines. A plan that was built repeats nothing, so its inputs have such lines too.
+pub fn some_log()
+    ensures log { EndsSomeLog }
+    ensures run { RunsSomeLog }
 {}
 
 /// Profiles outside of the chosen one's chain change nothing: where two inputs ask for the same
