@@ -8,7 +8,9 @@ pub use test_runner_core_planning::laws::{
     decided, default_twice, listed, not_planned_and_refused, one_plan, roads, selected,
     selected_once, settled,
 };
-pub use test_runner_core_run_model::laws::{after_a_reason, no_dead_end, reasons_first};
+pub use test_runner_core_run_model::laws::{
+    after_a_reason, assigned_end, no_dead_end, reasons_first,
+};
 
 /// Whatever the lister answers, inputs and a log have one report at most: one text and one exit
 /// status.
