@@ -229,7 +229,9 @@ fn holds_nowhere<F: Filters>(
     binary: &BinaryQuery<'_>,
 ) -> Result<bool, AllocError>
     requires serves { F.serves_as_default default.now ≡ true }
-    ensures { IfOk result (λ nowhere. nowhere ≡ true
+    ensures plain { IfOk result (λ nowhere. nowhere ≡ true
+        → F.has_runtime_leaves filter.now ≡ false) }
+    ensures sure { IfOk result (λ nowhere. nowhere ≡ true
         → F.on_binary filter.now default.now (binary_of binary.now) (Some false)) }
 {
     if filter.has_runtime_leaves() {
