@@ -1,7 +1,7 @@
-use Rattle.std.proofs.Common.{rules, [], append-nil, subst, sym}
-use Rattle.nextest_config_resolution_load.specs.Warn.{warnings_in}
+use Rattle.std.proofs.Common.{rules, ℕ, [], Err, append-nil, subst, sym}
+use Rattle.nextest_config_resolution_load.specs.Warn.{WarnsAs, warnings_in}
+use Rattle.nextest_config_resolution_load.specs.declared.load_error.LoadError.TheVariants as error
 use Rattle.nextest_config_resolution_profiles.specs.Whole.{IsSound}
-use Rattle.nextest_config_resolution_warnings.specs.Warn.{WarnsPrefix}
 use Rattle.nextest_config_resolution_profiles.proofs.Sound.{sound}
 use Rattle.nextest_config_resolution_profiles.proofs.config.NextestConfig.from_sources_with_warnings.Goals as goal
 
@@ -15,5 +15,5 @@ invariant_of-result g c =
 pub returns-in_err-shared-in-Ok-clause-warnings : goal.returns-in_err-shared-in-Ok-clause-warnings
 returns-in_err-shared-in-Ok-clause-warnings g c =
     let all = warnings_in c.args.sources.now in
-    let front : WarnsPrefix g.W.ConfigWarnings.has_warned c.args.warnings.now c.load_with_warnings.new.warnings all = (all, [], sym (append-nil all), c.in-Ok.ensures.warnings) in
+    let front : WarnsAs {A = ℕ} g.W.ConfigWarnings.has_warned c.args.warnings.now c.load_with_warnings.new.warnings all (Err error.OutOfMemory) = (all, [], sym (append-nil all), c.in-Ok.ensures.warnings) in
     search (rules, front)
