@@ -4,15 +4,18 @@
     python3 scripts/take_kept.py [CHECKOUT]
 
 For each crate whose files are those that a run of `rt ci` passed, over the libraries below as that run had them, the library is linked into
-`crates/NAME/out/rlib`, and the kit's stamp is written beside it. It prints how many there are, and the crates that it has none of: these, and
-those above them, are built by the next check. It goes by names inside of the kit's `rt` (`Kept`, `place`, `give`), which another kit may lack.
+`crates/NAME/out/rlib`, and the kit's stamp is written beside it; one that is built there already stays. It prints how many there are, and
+the crates that it has none of: these, and those above them, are built by the next check. It goes by names inside of the kit's `rt` (`Kept`,
+`place`, `give`), which another kit may lack.
 """
+import fcntl
 import importlib.machinery
 import importlib.util
 import os
 import pathlib
 import shutil
 import sys
+import tempfile
 
 sys.dont_write_bytecode = True
 ROOT = pathlib.Path(__file__).resolve().parent.parent
@@ -40,7 +43,13 @@ def take(kept, crate, told):
     below = crate.below()
     for it in below:
         take(kept, it, told)
-    if crate.is_program or not all(told[it.name] for it in below) or not os.path.isdir(kept.place(crate, False, kept.key(crate))):
+    if crate.is_program or not all(told[it.name] for it in below):
+        return
+    # One that is built stays, since a check that began over it would have to begin again.
+    if crate.is_built():
+        told[crate.name] = True
+        return
+    if not os.path.isdir(kept.place(crate, False, kept.key(crate))):
         return
     shutil.rmtree(f"{crate.folder}/out/rlib", ignore_errors=True)
     if kept.give(crate, False, kept.key(crate)):
@@ -51,6 +60,8 @@ def take(kept, crate, told):
 
 def main():
     top = os.path.realpath(sys.argv[1] if len(sys.argv) > 1 else ROOT)
+    alone = open(f"{tempfile.gettempdir()}/take_kept.lock", "w")
+    fcntl.flock(alone, fcntl.LOCK_EX)
     rt = kit()
     os.chdir(top)
     crates = list(rt.rtlib.crates_below(top))

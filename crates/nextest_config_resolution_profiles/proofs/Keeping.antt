@@ -14,8 +14,7 @@ use Rattle.nextest_config_elements_identifiers.specs.Groups.{text_of}
 use Rattle.nextest_config_elements_identifiers.specs.declared.test_group.TestGroup.{TestGroup}
 use Rattle.nextest_config_resolution_profiles.specs.Evaluatable.{Evaluatable}
 use Rattle.nextest_config_resolution_profiles.specs.Held.{IsGroupFor}
-use Rattle.nextest_config_resolution_profiles.specs.Memberships.{ArePrecomputed, IsOfHanded, Key, group_name, have_one_name, key_cmp, key_of}
-use Rattle.nextest_config_resolution_profiles.specs.declared.memberships.PrecomputedGroupMembership.{PrecomputedGroupMembership}
+use Rattle.nextest_config_resolution_profiles.specs.Memberships.{AreNames, IsOfHanded, Key, have_one_name, key_cmp, key_of, name_in}
 use Rattle.nextest_filtering_filters.specs.Query.{Test, test_of}
 use Rattle.nextest_filtering_filters.specs.declared.query.TestQuery.{TestQuery}
 
@@ -39,7 +38,7 @@ by_cond false name otherwise found = refl
 
 -- the name that is kept of a test, behind an insertion
 pub kept_name : (before after : BTreeMap Key (List ℕ)) (one : Test) (key : Key) (name : List ℕ) → key ≡ key_of one → Updates key_cmp before after key (Some name) → (test : Test)
-    → unwrap_or (get key_cmp after (key_of test)) (codes "@global") ≡ cond (have_one_name one test) name (unwrap_or (get key_cmp before (key_of test)) (codes "@global"))
+    → name_in after test ≡ cond (have_one_name one test) name (name_in before test)
 kept_name before after one key name same updates test =
     let global : List ℕ = codes "@global" in
     let old = get key_cmp before (key_of test) in
@@ -49,37 +48,61 @@ kept_name before after one key name same updates test =
 
 -- ---- one more test
 
-pub one_kept : {F S : Type 0} (OnTest : F → F → Test → Bool → Type 0) (profile : Evaluatable F S) (tests : List Test) (one : Test) (group : TestGroup) (it after : PrecomputedGroupMembership)
-    → ArePrecomputed OnTest profile tests it → IsGroupFor OnTest profile one group
-    → ((test : Test) → group_name after test ≡ cond (have_one_name one test) (text_of group) (group_name it test)) → ArePrecomputed OnTest profile (tests ++ one ∷ []) after
-one_kept {F} {S} OnTest profile tests one group it after are is changes test = by_test (have_one_name one test) refl where
-  changed : (same : Bool) → have_one_name one test ≡ same → group_name after test ≡ cond same (text_of group) (group_name it test)
-  changed same e = changes test ∙ ap (λ (b : Bool). cond b (text_of group) (group_name it test)) e
+pub one_kept : {F S : Type 0} (OnTest : F → F → Test → Bool → Type 0) (profile : Evaluatable F S)
+    (tests : List Test) (one : Test) (group : TestGroup) (before after : Test → List ℕ)
+    → AreNames OnTest profile tests before → IsGroupFor OnTest profile one group
+    → ((test : Test) → after test ≡ cond (have_one_name one test) (text_of group) (before test))
+    → AreNames OnTest profile (tests ++ one ∷ []) after
+one_kept {F} {S} OnTest profile tests one group before after are is changes test =
+    by_test (have_one_name one test) refl
+  where
+    changed : (same : Bool) → have_one_name one test ≡ same
+        → after test ≡ cond same (text_of group) (before test)
+    changed same e = changes test ∙ ap (λ (b : Bool). cond b (text_of group) (before test)) e
 
-  kept : IsOfHanded OnTest profile tests test (group_name it test) → group_name after test ≡ group_name it test → IsOfHanded OnTest profile (tests ++ one ∷ []) test (group_name after test)
-  kept of same = record {
-    handed = of.handed;
-    among = Contains-append_left tests (one ∷ []) of.handed of.among;
-    one = of.one;
-    group = of.group;
-    is = of.is;
-    named = same ∙ of.named;
-  }
+    kept : IsOfHanded OnTest profile tests test (before test) → after test ≡ before test
+        → IsOfHanded OnTest profile (tests ++ one ∷ []) test (after test)
+    kept of same = record {
+      handed = of.handed;
+      among = Contains-append_left tests (one ∷ []) of.handed of.among;
+      one = of.one;
+      group = of.group;
+      is = of.is;
+      named = same ∙ of.named;
+    }
 
-  by_test : (same : Bool) → have_one_name one test ≡ same
-      → IsOfHanded OnTest profile (tests ++ one ∷ []) test (group_name after test)
-      ⊎ (All (λ handed. have_one_name handed test ≡ false) (tests ++ one ∷ []) × (group_name after test ≡ codes "@global"))
-  by_test true e = inl (record { handed = one; among = Contains-push tests one; one = e; group = group; is = is; named = changed true e })
-  by_test false e = elim (are test) [
-    | inl of ↦ inl (kept of (changed false e))
-    | inr none ↦ inr (All-push (λ (handed : Test). have_one_name handed test ≡ false) tests one none.0 e, changed false e ∙ none.1)
-  ]
+    by_test : (same : Bool) → have_one_name one test ≡ same
+        → IsOfHanded OnTest profile (tests ++ one ∷ []) test (after test)
+        ⊎ (All (λ handed. have_one_name handed test ≡ false) (tests ++ one ∷ [])
+        × (after test ≡ codes "@global"))
+    by_test true e = inl (record {
+      handed = one;
+      among = Contains-push tests one;
+      one = e;
+      group = group;
+      is = is;
+      named = changed true e;
+    })
+    by_test false e = elim (are test) [
+      | inl of ↦ inl (kept of (changed false e))
+      | inr none ↦ inr (
+        All-push (λ (handed : Test). have_one_name handed test ≡ false) tests one none.0 e,
+        changed false e ∙ none.1,
+      )
+    ]
 
 -- as a loop comes to it
-pub next_kept : {F S : Type 0} (OnTest : F → F → Test → Bool → Type 0) (profile : Evaluatable F S) (tests : List TestQuery) (place : ℕ) (d : TestQuery) (group : TestGroup) (it after : PrecomputedGroupMembership)
-    → place < length tests → ArePrecomputed OnTest profile (map test_of (take place tests)) it → IsGroupFor OnTest profile (test_of (get_or tests place d)) group
-    → ((test : Test) → group_name after test ≡ cond (have_one_name (test_of (get_or tests place d)) test) (text_of group) (group_name it test))
-    → ArePrecomputed OnTest profile (map test_of (take (place + 1) tests)) after
-next_kept OnTest profile tests place d group it after within are is changes =
-    subst (λ (them : List Test). ArePrecomputed OnTest profile them after) (sym (ap (map test_of) (take_more tests place d within) ∙ map_push test_of (take place tests) (get_or tests place d)))
-    (one_kept OnTest profile (map test_of (take place tests)) (test_of (get_or tests place d)) group it after are is changes)
+pub next_kept : {F S : Type 0} (OnTest : F → F → Test → Bool → Type 0) (profile : Evaluatable F S)
+    (tests : List TestQuery) (place : ℕ) (d : TestQuery) (group : TestGroup)
+    (before after : Test → List ℕ)
+    → place < length tests → AreNames OnTest profile (map test_of (take place tests)) before
+    → IsGroupFor OnTest profile (test_of (get_or tests place d)) group
+    → ((test : Test) → after test
+    ≡ cond (have_one_name (test_of (get_or tests place d)) test) (text_of group) (before test))
+    → AreNames OnTest profile (map test_of (take (place + 1) tests)) after
+next_kept OnTest profile tests place d group before after within are is changes =
+    subst (λ (them : List Test). AreNames OnTest profile them after)
+    (sym (ap (map test_of) (take_more tests place d within)
+    ∙ map_push test_of (take place tests) (get_or tests place d)))
+    (one_kept OnTest profile (map test_of (take place tests)) (test_of (get_or tests place d)) group
+    before after are is changes)

@@ -1,8 +1,9 @@
 -- The groups of tests, as they are kept for those who ask for them later.
 use Rattle.std.specs.Prelude.{◌≡◌, ◌⊎◌, ℕ, Bool, true, false, ◌&&◌, List, All, Contains, codes, unwrap_or}
-use Rattle.std.specs.BTreeMap.{get}
+use Rattle.std.specs.BTreeMap.{BTreeMap, get}
 use Rattle.std.specs.Cmp.Lexicographic.{slice_cmp}
 use Rattle.std.specs.List.{IsDistinct}
+use Rattle.std.specs.Option.{option_map_or}
 use Rattle.std.specs.Ordering.{nat_cmp, ordering_then}
 use Rattle.std.specs.Str.{bytes_eq}
 use Rattle.std.specs.declared.cmp.Ordering.{Ordering}
@@ -23,9 +24,13 @@ key_of test = (test.binary.id, test.name)
 abbrev pub key_cmp : Key → Key → Ordering
 key_cmp one other = ordering_then (slice_cmp nat_cmp one.0 other.0) (slice_cmp nat_cmp one.1 other.1)
 
--- the name of the group that is kept of a test, which is the global one where none is
+-- the name that stands in a map for a test, which is that of the global group where none does
+abbrev pub name_in : BTreeMap Key (List ℕ) → Test → List ℕ
+name_in groups test = unwrap_or (get key_cmp groups (key_of test)) (codes "@global")
+
+-- the name of the group that is kept of a test, which is the global one where no map is
 abbrev pub group_name : PrecomputedGroupMembership → Test → List ℕ
-group_name it test = unwrap_or (get key_cmp it.groups (key_of test)) (codes "@global")
+group_name it test = option_map_or (λ groups. name_in groups.value test) it.groups (codes "@global")
 
 -- two tests have one name, in binaries of one id
 abbrev pub have_one_name : Test → Test → Bool
@@ -40,12 +45,18 @@ pub record IsOfHanded {F S : Type 0} (OnTest : F → F → Test → Bool → Typ
   pub is : IsGroupFor OnTest profile handed group
   pub named : name ≡ text_of group
 
+-- these are the names of groups for some tests: a test of the name of one of these has that of its
+-- group, and any other that of the global one
+abbrev pub AreNames : {F S : Type 0} → (F → F → Test → Bool → Type 0) → Evaluatable F S → List Test
+    → (Test → List ℕ) → Type 0
+AreNames OnTest profile tests name_of = (test : Test)
+    → IsOfHanded OnTest profile tests test (name_of test)
+    ⊎ (All (λ handed. have_one_name handed test ≡ false) tests × (name_of test ≡ codes "@global"))
+
 -- what is kept of some tests: a test of the name of one of these has its group, and any other the
 -- global one
 abbrev pub ArePrecomputed : {F S : Type 0} → (F → F → Test → Bool → Type 0) → Evaluatable F S → List Test → PrecomputedGroupMembership → Type 0
-ArePrecomputed OnTest profile tests it = (test : Test)
-    → IsOfHanded OnTest profile tests test (group_name it test)
-    ⊎ (All (λ handed. have_one_name handed test ≡ false) tests × (group_name it test ≡ codes "@global"))
+ArePrecomputed OnTest profile tests it = AreNames OnTest profile tests (group_name it)
 
 -- what is kept of tests of which no two have one name is the group of each of them, and of any other
 -- test the global one

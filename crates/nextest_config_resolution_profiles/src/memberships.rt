@@ -14,12 +14,14 @@ use nextest_filtering_filters::{GroupLookup, TestQuery};
 use nextest_text::Text;
 use std::alloc::{AllocError, Global};
 use std::collections::BTreeMap;
+use std::rc::Rc;
 
 /// The groups of tests, found before they are asked for. Tests are told apart by the id of their
 /// binary and their name; those that weren't handed in are in the global group.
 pub struct PrecomputedGroupMembership {
     alloc: Global,
-    groups: BTreeMap<(Text, Text), Text>,
+    // Copies share them; `None` is as good as an empty map.
+    groups: Option<Rc<BTreeMap<(Text, Text), Text>>>,
 }
 
 // One call drops it, whoever holds it.
@@ -32,6 +34,23 @@ impl Drop for PrecomputedGroupMembership {
     }
 }
 
+impl Clone for PrecomputedGroupMembership {
+    ghost use Rattle.nextest_config_resolution_profiles.specs.Memberships.{group_name};
+    ghost use Rattle.nextest_filtering_filters.specs.Query.{Test};
+    ghost use Rattle.std.specs.Prelude.{◌≡◌};
+
+    ghost is_clone = { λ original copy.
+        (test : Test) → group_name copy test ≡ group_name original test };
+
+    // The groups are shared.
+    fn clone(&self) -> Result<PrecomputedGroupMembership, AllocError> {
+        Ok(PrecomputedGroupMembership {
+            alloc: self.alloc,
+            groups: self.groups.clone()?,
+        })
+    }
+}
+
 impl PrecomputedGroupMembership {
     /// Groups of no tests: each test is in the global one.
     pub fn empty(alloc: Global) -> PrecomputedGroupMembership
@@ -39,20 +58,8 @@ impl PrecomputedGroupMembership {
     {
         PrecomputedGroupMembership {
             alloc,
-            groups: BTreeMap::new(alloc),
+            groups: None,
         }
-    }
-
-    // Keeps the group of a test, in place of what is kept of the test.
-    fn insert(&mut self, query: &TestQuery<'_>, group: TestGroupRef<'_>) -> Result<(), AllocError>
-        ensures { OnOk result ((test : Test) → words.group_name self.new test
-            ≡ (if words.have_one_name (test_of query.now) test
-            then text_of (group_of group.entry) else words.group_name self.old test)) }
-    {
-        let key = key_of(self.alloc, query)?;
-        let name = Text::from_str(self.alloc, group.as_str())?;
-        self.groups.insert(key, name)?;
-        Ok(())
     }
 }
 
@@ -67,8 +74,13 @@ impl GroupLookup for PrecomputedGroupMembership {
         test: &TestQuery<'_>,
         matcher: &NameMatcher,
     ) -> Result<bool, AllocError> {
-        let key = key_of(self.alloc, test)?;
-        matcher.is_match(self.alloc, name_at(&self.groups, &key))
+        match &self.groups {
+            Some(groups) => {
+                let key = key_of(self.alloc, test)?;
+                matcher.is_match(self.alloc, name_at(groups, &key))
+            }
+            None => matcher.is_match(self.alloc, "@global"),
+        }
     }
 }
 
@@ -80,6 +92,23 @@ fn name_at<'g>(groups: &'g BTreeMap<(Text, Text), Text>, key: &(Text, Text)) -> 
         Some(name) => name.as_str(),
         None => "@global",
     }
+}
+
+// Keeps the group of a test, in place of what is kept of the test.
+fn keep(
+    alloc: Global,
+    groups: &mut BTreeMap<(Text, Text), Text>,
+    query: &TestQuery<'_>,
+    group: TestGroupRef<'_>,
+) -> Result<(), AllocError>
+    ensures { OnOk result ((test : Test) → words.name_in groups.new test
+        ≡ (if words.have_one_name (test_of query.now) test
+        then text_of (group_of group.entry) else words.name_in groups.old test)) }
+{
+    let key = key_of(alloc, query)?;
+    let name = Text::from_str(alloc, group.as_str())?;
+    groups.insert(key, name)?;
+    Ok(())
 }
 
 // The id of a test's binary, and its own name.
@@ -104,11 +133,14 @@ impl<'c, F: Filters, S: Specs> EvaluatableProfile<'c, F, S> {
     ) -> Result<PrecomputedGroupMembership, AllocError>
         ensures { IfOk result (words.ArePrecomputed F.on_test self.now (map test_of tests.now)) }
     {
-        let mut found = PrecomputedGroupMembership::empty(alloc);
+        let mut found = BTreeMap::new(alloc);
         for test in tests {
             let group = self.group_for(alloc, test)?;
-            found.insert(test, group)?;
+            keep(alloc, &mut found, test, group)?;
         }
-        Ok(found)
+        Ok(PrecomputedGroupMembership {
+            alloc,
+            groups: Some(Rc::new(alloc, found)?),
+        })
     }
 }
