@@ -47,6 +47,7 @@ def take(kept, crate, told):
         return
     # One that is built stays, since a check that began over it would have to begin again.
     if crate.is_built():
+        kept.is_built(crate)
         told[crate.name] = True
         return
     if not os.path.isdir(kept.place(crate, False, kept.key(crate))):

@@ -15,7 +15,7 @@ abbrev pub warnings_at : ConfigSource → Option Members → List (ConfigSource 
 warnings_at source None = []
 warnings_at source (Some file) = told_of source (warnings_of file)
 
--- of its own
+-- of the file that the source itself has
 abbrev pub warnings_for : ConfigSource → List (ConfigSource × ConfigWarning)
 warnings_for source = warnings_at source (file_of source)
 

@@ -76,7 +76,8 @@ fn read_source<'s, R: Languages>(
 ) -> Result<ReadFile<R::Filter, R::Spec>, LoadError>
     ensures read { let given = file_of source.now in Passes
         (R.is_filter cx.now) R.is_spec R.is_too_deep (source_checks features source.now)
-        (IsReadFile (R.is_filter cx.now) R.is_spec source.now.path given (members_view tree)) result }
+        (IsReadFile (R.is_filter cx.now) R.is_spec source.now.path given (members_view tree))
+        result }
     ensures kept { OnOk result (AreKept kept.old kept.new (warnings_for source.now)) }
 {
     let path = source.path.as_str();
@@ -134,7 +135,8 @@ fn read_text<'s, R: Languages>(
 ) -> Result<ReadFile<R::Filter, R::Spec>, LoadError>
     ensures read { let given = parse_document text.now in Passes (R.is_filter cx.now) R.is_spec
         R.is_too_deep (document_checks features source.now.path source.now.kind given)
-        (IsReadFile (R.is_filter cx.now) R.is_spec source.now.path given (members_view tree)) result }
+        (IsReadFile (R.is_filter cx.now) R.is_spec source.now.path given (members_view tree))
+        result }
     ensures kept { OnOk result
         (AreKept kept.old kept.new (warnings_at source.now (parse_document text.now))) }
 {

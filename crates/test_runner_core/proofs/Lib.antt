@@ -4,6 +4,8 @@ pub mod Course
 pub mod Kept
 pub mod Walk
 pub mod NextLine
+mod Near
+mod NearCalls
 pub mod Reported
 pub mod Stream
 pub mod OneStep

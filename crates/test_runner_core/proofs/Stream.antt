@@ -33,7 +33,7 @@ use Rattle.test_runner_core.specs.Report.{Begun, Composed, Reports, HasSoFar, Of
 use Rattle.test_runner_core.proofs.Left.{of_any, of_both, of_left}
 
 -- what a stream is, where its first line was read
-log_behind : (bytes behind : List ℕ) (lines : Cursor) → IsParted lines bytes behind → lines.handed ≡ 0 → items_ahead lines behind ≡ items 0 (behind_feed bytes)
+pub log_behind : (bytes behind : List ℕ) (lines : Cursor) → IsParted lines bytes behind → lines.handed ≡ 0 → items_ahead lines behind ≡ items 0 (behind_feed bytes)
 log_behind bytes behind lines parts fresh = ap (λ (n : ℕ). items n (lines.waiting ++ behind)) fresh ∙ ap (items 0) parts.2
 
 -- the report of a stream whose first line is inputs
@@ -54,7 +54,7 @@ stream_begun inputs left rest lines parted fresh read parts (behind, gives, is) 
     (subst (λ (log : List Item). Begun (table_of inputs) inputs log parts) (log_behind at.0 behind lines at.2 fresh) is))
 
 -- where two lists make nothing, neither has anything
-both_none : (one other : List ℕ) → one ++ other ≡ [] → (one ≡ []) × (other ≡ [])
+pub both_none : (one other : List ℕ) → one ++ other ≡ [] → (one ≡ []) × (other ≡ [])
 both_none [] other none = (refl, none)
 both_none (byte ∷ one) other none = absurd (cc)
 

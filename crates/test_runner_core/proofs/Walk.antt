@@ -1,5 +1,6 @@
 -- What stays true while the lines of a log are judged.
 use Rattle.std.proofs.Common.{◌≡◌, ℕ, ◌+◌, ◌≤◌, List, [], ◌∷◌, ◌++◌, length, map, Option, Some, None, Result, Ok, Err, refl, sym, ap, ◌∙◌, subst, inl, inr, append_assoc, append-nil, arith}
+use Rattle.std.specs.Prelude.{◌⊎◌}
 use Rattle.std.specs.Io.KnownBytes.{Appends}
 use Rattle.std.specs.Result.{IsErrAnd}
 use Rattle.std.proofs.lemmas.Result.{err_from_is_err_and}
@@ -28,6 +29,7 @@ use Rattle.test_runner_core_reporter.proofs.KeptReports.{all_as, front_as}
 use Rattle.test_runner_core_reporter.proofs.Told.{all_then, front_then, moves_then}
 use Rattle.test_runner_core.specs.Faults.{fault_of_reporting}
 use Rattle.test_runner_core.specs.Inside.{BegunLines, GotLines, HandsNext, IsLogOf, JudgesLine, JudgesLines, KeepsJudged, kept_event}
+use Rattle.test_runner_core.specs.Near.{NearAhead, ReportsNear}
 use Rattle.test_runner_core.specs.declared.judge_fault.JudgeFault.{JudgeFault}
 use Rattle.test_runner_core.specs.declared.judge_fault.JudgeFault.TheVariants as fault
 use Rattle.test_runner_core.specs.declared.refused_line.RefusedLine.{RefusedLine}
@@ -58,9 +60,15 @@ pub record Where (plan : Plan) (begin : Cursor) (known before : Option (List ℕ
   pub bytes : TakesLines begin known front cursor left
   pub numbered : number ≡ length front + 1
 
+-- how far the log was read: nothing was taken of it, or the line is near behind some whose report
+-- was written whole
+abbrev pub ReadNear : Plan → Cursor → Option (List ℕ) → Option (List ℕ) → Option (List ℕ) → Option (List ℕ) → Type 0
+ReadNear plan begin known before left after = (left ≡ known) ⊎ NearAhead begin known left (λ log. ReportsNear plan log before after)
+
 -- and how often reader and writer were called for it
 pub record Walking (plan : Plan) (begin : Cursor) (known before : Option (List ℕ)) (first_calls first_failures first_write_failures : ℕ) (session : SessionState) (cursor : Cursor) (left after : Option (List ℕ)) (waits : List ℕ) (number calls failures write_failures : ℕ) : Type 0 where
   pub here : Where plan begin known before session cursor left after waits number
+  pub near : ReadNear plan begin known before left after
   pub reads : calls + bytes_received begin ≤ first_calls + bytes_received cursor
   pub within : calls ≤ first_calls + LOG_LIMIT + 1
   pub unfailed : failures ≡ first_failures
@@ -68,10 +76,10 @@ pub record Walking (plan : Plan) (begin : Cursor) (known before : Option (List �
   pub counted : number ≤ cursor.handed + 1
 
 -- what the log may go on with
-rest_behind : Cursor → Option (List ℕ) → List Item
+pub rest_behind : Cursor → Option (List ℕ) → List Item
 rest_behind cursor left = items_ahead cursor (gives_some left).0
 
-log_at_line : (begin old new : Cursor) (known left rest : Option (List ℕ)) (front : List (List ℕ)) → LeavesAhead begin known front old left → Hands old left new rest (Ok found_is.Line)
+pub log_at_line : (begin old new : Cursor) (known left rest : Option (List ℕ)) (front : List (List ℕ)) → LeavesAhead begin known front old left → Hands old left new rest (Ok found_is.Line)
     → IsLogOf begin known front (Line new.line ∷ rest_behind new rest)
 unfolding rest_behind
 log_at_line begin old new known left rest front ahead hands =
@@ -99,21 +107,21 @@ unfolding rest_behind
 log_behind_line begin old new known left rest front ahead hands =
     let some = gives_some rest in log_past_line begin old new known left rest front ahead hands some.0 some.1
 
-log_at_fault : (begin old new : Cursor) (known left rest : Option (List ℕ)) (front : List (List ℕ)) (fault : LineFault) → LeavesAhead begin known front old left
+pub log_at_fault : (begin old new : Cursor) (known left rest : Option (List ℕ)) (front : List (List ℕ)) (fault : LineFault) → LeavesAhead begin known front old left
     → Hands old left new rest (Ok (found_is.Refused fault)) → IsLogOf begin known front (Refused fault ∷ [])
 log_at_fault begin old new known left rest front fault ahead hands =
     let at = hands.2 in
     let log = ahead at.0 at.1 in
     (log.0, log.1, log.2 ∙ ap (λ (t : List Item). map Line front ++ t) at.2.0)
 
-log_at_end : (begin old new : Cursor) (known left rest : Option (List ℕ)) (front : List (List ℕ)) → LeavesAhead begin known front old left
+pub log_at_end : (begin old new : Cursor) (known left rest : Option (List ℕ)) (front : List (List ℕ)) → LeavesAhead begin known front old left
     → Hands old left new rest (Ok found_is.End) → IsLogOf begin known front []
 log_at_end begin old new known left rest front ahead hands =
     let at = hands.2 in
     let log = ahead at.0 at.1 in
     (log.0, log.1, log.2 ∙ ap (λ (t : List Item). map Line front ++ t) at.2.0)
 
-log_somewhere : (begin cursor : Cursor) (known left : Option (List ℕ)) (front : List (List ℕ)) → LeavesAhead begin known front cursor left → IsLogOf begin known front (rest_behind cursor left)
+pub log_somewhere : (begin cursor : Cursor) (known left : Option (List ℕ)) (front : List (List ℕ)) → LeavesAhead begin known front cursor left → IsLogOf begin known front (rest_behind cursor left)
 unfolding rest_behind
 log_somewhere begin cursor known left front ahead = let some = gives_some left in ahead some.0 some.1
 
@@ -138,7 +146,7 @@ opening_failed plan lent begin known before after waited same none failed =
     }
 
 -- reported so far, and nothing more
-told_still : (parts : List Part) (before middle after : Option (List ℕ)) (mid waits : List ℕ) → WritesAll parts before [] middle mid → WritesAll [] middle mid after waits → WritesAll parts before [] after waits
+pub told_still : (parts : List Part) (before middle after : Option (List ℕ)) (mid waits : List ℕ) → WritesAll parts before [] middle mid → WritesAll [] middle mid after waits → WritesAll parts before [] after waits
 told_still parts before middle after mid waits first second =
     subst (λ (p : List Part). WritesAll p before [] after waits) (append-nil parts) (all_then parts [] before middle after [] mid waits first second)
 

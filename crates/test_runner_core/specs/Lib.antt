@@ -9,6 +9,7 @@ pub mod Check
 pub mod Laws
 pub mod SomeLog
 pub mod Inside
+pub mod Near
 -- how a run is reported
 pub use Rattle.test_runner_core_reporter.specs.Parts
 pub use Rattle.test_runner_core_reporter.specs.Writes

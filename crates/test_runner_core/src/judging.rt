@@ -6,6 +6,7 @@ ghost use Rattle.test_runner_core_reporter.specs.Writes as reporting;
 ghost use Rattle.test_runner_core_session.specs.Session.{session_of};
 ghost use Rattle.test_runner_core.specs.Faults.{CountsReadFailures, CountsWriteFailures};
 ghost use Rattle.test_runner_core.specs.Inside.{HandsNext, JudgesLines, ReadsNext};
+ghost use Rattle.test_runner_core.specs.Near.{LinesNear, LooksNear};
 
 use crate::judge_fault::JudgeFault;
 use crate::judging_line::judge_line;
@@ -36,6 +37,8 @@ pub(crate) fn judge_lines<R: LogReader, W: ReportWriter>(
     ensures plan { IfOk result (λ _. session.new.plan ≡ session.old.plan) }
     ensures judged { JudgesLines result session.old.plan session.new.run lines.old (R.left log.old)
         (R.left log.new) (W.taken report.old) (W.taken report.new) (string_bytes text.new) }
+    ensures near { LinesNear result session.old.plan lines.old (R.left log.old) (R.left log.new)
+        (W.taken report.old) (W.taken report.new) }
     ensures reads { R.calls log.new ≤ R.calls log.old + log_reads }
     ensures read_failures { CountsReadFailures result (R.failures log.old) (R.failures log.new)
         (R.last_failed log.new) }
@@ -68,6 +71,8 @@ fn next_line<R: LogReader, W: ReportWriter>(
     requires failures_fit { R.failures log.old < 2 ^ 63 }
     requires writes_fit { W.failures report.old < 2 ^ 63 }
     ensures items { HandsNext result lines.old (R.left log.old) lines.new (R.left log.new)
+        (W.taken report.old) (string_bytes text.old) (W.taken report.new) (string_bytes text.new) }
+    ensures near { LooksNear result lines.old (R.left log.old) lines.new (R.left log.new)
         (W.taken report.old) (string_bytes text.old) (W.taken report.new) (string_bytes text.new) }
     ensures reads { ReadsNext result lines.old (R.calls log.old) lines.new (R.calls log.new) }
     ensures read_failures { CountsReadFailures result (R.failures log.old) (R.failures log.new)

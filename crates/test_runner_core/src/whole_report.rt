@@ -6,6 +6,7 @@ ghost use Rattle.test_runner_core_reporter.specs.Parts.{Said};
 ghost use Rattle.test_runner_core_reporter.specs.Writes as reporting;
 ghost use Rattle.test_runner_core.specs.Faults.{CountsReadFailures, CountsWriteFailures};
 ghost use Rattle.test_runner_core.specs.Inside.{IsBegun, IsGot, IsJudged};
+ghost use Rattle.test_runner_core.specs.Near.{LinesNear};
 ghost use Rattle.test_runner_core.specs.Report.{IsStatus, Reports, ending, exit_status, refused_inputs, refused_plan, refused_line};
 
 use crate::judge_fault::JudgeFault;
@@ -37,6 +38,8 @@ pub(crate) fn judge_plan<R: LogReader, W: ReportWriter>(
     ensures reports { Reports result (IsJudged plan.now lines.old (R.left log.old))
         (IsGot plan.now lines.old (R.left log.old) (R.left log.new))
         (IsBegun plan.now lines.old (R.left log.old)) (W.taken report.old) (W.taken report.new) }
+    ensures near { LinesNear result plan.now lines.old (R.left log.old) (R.left log.new)
+        (W.taken report.old) (W.taken report.new) }
     ensures status { IfOk result IsStatus }
     ensures reads { R.calls log.new ≤ R.calls log.old + log_reads }
     ensures read_failures { CountsReadFailures result (R.failures log.old) (R.failures log.new)

@@ -19,8 +19,8 @@ use Rattle.test_runner_core_log_reader.proofs.Left.{gives_none}
 use Rattle.test_runner_core_log_reader.proofs.Items.{items_line, items_end}
 
 -- what is ahead is what was ahead, few bytes wait behind the first line feed, each call brought a
--- byte, none failed, and the log's limit holds; there was no call where the bytes that waited told
--- what is next
+-- byte, none failed, and the log's limit holds; there was no call, and the reader has what it had,
+-- where the bytes that waited told what is next
 pub record Reading (old : Cursor) (left : Option (List ℕ)) (old_calls old_failures : ℕ) (new : Cursor) (rest : Option (List ℕ)) (calls failures : ℕ) : Type 0 where
   pub ahead : KeepsAhead old left new rest
   pub handed : new.handed ≡ old.handed
@@ -29,6 +29,7 @@ pub record Reading (old : Cursor) (left : Option (List ℕ)) (old_calls old_fail
   pub limit : bytes_received new ≤ LOG_LIMIT + 1
   pub unfailed : failures ≡ old_failures
   pub unread : tells_next old ≡ true → (calls ≡ old_calls) × (tells_next new ≡ true)
+  pub still : tells_next old ≡ true → rest ≡ left
 
 pub ahead_refl : (cursor : Cursor) (left : Option (List ℕ)) → KeepsAhead cursor left cursor left
 ahead_refl cursor left = λ behind gives. (behind, gives, refl)

@@ -138,6 +138,7 @@ impl LogLines {
         ensures limit { bytes_received self.new + idle_reads result ≤ log_reads }
         ensures unread { tells_next self.old ≡ true
             → IsUnread result (R.calls reader.old) (R.calls reader.new) }
+        ensures still { tells_next self.old ≡ true → R.left reader.new ≡ R.left reader.old }
         ensures cut { OnErr result (IsPlain self.new.waiting) }
         ensures near { IsNear self.new }
         ensures few { result ≡ Ok Next.Line → length self.new.waiting < READ_LIMIT }

@@ -1,5 +1,6 @@
-use Rattle.std.proofs.Common.{◌≡◌, List, ℕ, ◌+◌, ◌≤◌, [], length, Option, Ok, Err, IfSome, sym, subst, ap, ◌∙◌}
+use Rattle.std.proofs.Common.{◌≡◌, List, ℕ, ◌+◌, ◌≤◌, ◌<◌, [], length, Option, Ok, Err, IfSome, sym, subst, ap, ◌∙◌}
 use Rattle.test_runner_core_streams.specs.Left.{OfBytes}
+use Rattle.test_runner_core_streams.specs.declared.traits.TheConstants.{READ_LIMIT}
 use Rattle.test_runner_core_inputs.specs.Calls.{Reads}
 use Rattle.test_runner_core_inputs.specs.Reading.{read_inputs}
 use Rattle.test_runner_core_inputs.specs.declared.inputs_error.InputsError.{InputsError}
@@ -8,10 +9,12 @@ use Rattle.test_runner_core_log_reader.specs.Calls.{PartsAtFirst}
 use Rattle.test_runner_core_log_reader.specs.Cursor.{Cursor, items_ahead}
 use Rattle.test_runner_core_log_reader.specs.Feeds.{before_feed}
 use Rattle.test_runner_core_reporter.proofs.Told.{front_none}
+use Rattle.test_runner_core.specs.declared.judge_fault.JudgeFault.TheVariants as fault
 use Rattle.test_runner_core.specs.Inside.{IsGotOf}
 use Rattle.test_runner_core.specs.Outcome.{HasNoPlan, StreamBegun, StreamComposed, StreamGotTo, table_of}
 use Rattle.test_runner_core.specs.Report.{Begun, Composed, HasSoFar, OfLeft, refused_inputs}
 use Rattle.test_runner_core.proofs.Headline.{stream_headline}
+use Rattle.test_runner_core.proofs.NearCalls.{first_line_near, stream_near}
 use Rattle.test_runner_core.proofs.Reported.{reports_as}
 use Rattle.test_runner_core.proofs.Stream.{begun_nothing, first_line_alone, first_line_fails, refused_begun, refused_long, refused_parts, refused_stream, refused_ungot, stream_begun, stream_composed, stream_got, whatever_is_known}
 use Rattle.test_runner_core.proofs.entry.judge_stream.Goals as goal
@@ -114,3 +117,37 @@ pub returns-in-Err-Refused-clause-headline : goal.returns-in-Err-Refused-clause-
 returns-in-Err-Refused-clause-headline g c =
     stream_headline (g.R.LogReader.left c.args.input.now) _ _ c.refuse_inputs-in-Err-Refused.result (g.W.ReportWriter.taken c.args.report.now)
     (g.W.ReportWriter.taken c.refuse_inputs-in-Err-Refused.new.report) (returns-in-Err-Refused-clause-reports g c)
+
+-- how near to the line with which it ends it reads
+pub returns-in_err-lines-clause-near : goal.returns-in_err-lines-clause-near
+returns-in_err-lines-clause-near g c =
+    first_line_near c.from_residual.result (g.R.LogReader.left c.args.input.now) (g.R.LogReader.left c.behind_first_line.new.reader) (g.W.ReportWriter.taken c.args.report.now) (g.W.ReportWriter.taken c.args.report.now)
+    c.behind_first_line.ensures.near
+
+pub returns-in_default-clause-near : goal.returns-in_default-clause-near
+returns-in_default-clause-near g c =
+    first_line_near c.refuse_inputs.result (g.R.LogReader.left c.args.input.now) (g.R.LogReader.left c.behind_first_line.new.reader) (g.W.ReportWriter.taken c.args.report.now) (g.W.ReportWriter.taken c.refuse_inputs.new.report)
+    c.behind_first_line.ensures.near
+
+pub returns-in-Err-Refused-clause-near : goal.returns-in-Err-Refused-clause-near
+returns-in-Err-Refused-clause-near g c =
+    first_line_near c.refuse_inputs-in-Err-Refused.result (g.R.LogReader.left c.args.input.now) (g.R.LogReader.left c.behind_first_line.new.reader) (g.W.ReportWriter.taken c.args.report.now) (g.W.ReportWriter.taken c.refuse_inputs-in-Err-Refused.new.report)
+    c.behind_first_line.ensures.near
+
+pub returns-clause-near : goal.returns-clause-near
+returns-clause-near g c =
+    first_line_near (Err fault.Memory) (g.R.LogReader.left c.args.input.now) (g.R.LogReader.left c.behind_first_line.new.reader) (g.W.ReportWriter.taken c.args.report.now) (g.W.ReportWriter.taken c.args.report.now)
+    c.behind_first_line.ensures.near
+
+pub returns-in-Ok-clause-near : goal.returns-in-Ok-clause-near
+returns-in-Ok-clause-near g c =
+    let known = g.R.LogReader.left c.args.input.now in
+    let rest = g.R.LogReader.left c.behind_first_line.new.reader in
+    let lines = c.in-Some.lines in
+    let inputs = c.in-Ok.inputs in
+    let parts = subst (λ (o : Option Cursor). PartsAtFirst known o rest) c.in-Some.is c.in_ok-lines.ensures.lines in
+    let fresh = subst (λ (o : Option Cursor). IfSome o (λ it. it.handed ≡ 0)) c.in-Some.is c.in_ok-lines.ensures.fresh in
+    let few = subst (λ (o : Option Cursor). IfSome o (λ it. length it.waiting < READ_LIMIT)) c.in-Some.is c.in_ok-lines.ensures.few in
+    let read : read_inputs lines.line ≡ Ok inputs = ap read_inputs (sym c.line.ensures) ∙ c.in-Ok.ensures.exact in
+    stream_near c.judge_by_table.result inputs known rest (g.R.LogReader.left c.judge_by_table.new.log) (g.W.ReportWriter.taken c.args.report.now) (g.W.ReportWriter.taken c.judge_by_table.new.report) lines
+    parts fresh read c.behind_first_line.ensures.near few c.judge_by_table.ensures.near

@@ -215,6 +215,7 @@ loop-fault-init g c =
       limit = omega (arith, size, within);
       unfailed = refl;
       unread = λ told. (refl, tells_unmoved c.args.self.now c.give_back.new.self same ∙ told);
+      still = λ told. refl;
     }
 
 pub loop-fault-preserved : goal.loop-fault-preserved
@@ -238,6 +239,7 @@ loop-fault-preserved g c =
       limit = c.in_ok-count.ensures.limit;
       unfailed = c.in_ok-count.ensures.failures ∙ before.unfailed;
       unread = λ told. absurd (never_waits c.loop-fault.self c.scan.new.self waits (before.unread told).1);
+      still = λ told. absurd (never_waits c.loop-fault.self c.scan.new.self waits (before.unread told).1);
     }
 
 pub returns-in-Line-clause-unread : goal.returns-in-Line-clause-unread
@@ -251,6 +253,18 @@ returns-in_err-count-clause-unread g c told = absurd (never_waits c.loop-fault.s
 
 pub returns-then-count-eq0-clause-unread : goal.returns-then-count-eq0-clause-unread
 returns-then-count-eq0-clause-unread g c told = absurd (never_waits c.loop-fault.self c.scan.new.self c.in-Waits.ensures (c.loop-fault.invariant.unread told).1)
+
+pub returns-in-Line-clause-still : goal.returns-in-Line-clause-still
+returns-in-Line-clause-still g c told = c.loop-fault.invariant.still told
+
+pub returns-in-Refused-clause-still : goal.returns-in-Refused-clause-still
+returns-in-Refused-clause-still g c told = c.loop-fault.invariant.still told
+
+pub returns-in_err-count-clause-still : goal.returns-in_err-count-clause-still
+returns-in_err-count-clause-still g c told = absurd (never_waits c.loop-fault.self c.scan.new.self c.in-Waits.ensures (c.loop-fault.invariant.unread told).1)
+
+pub returns-then-count-eq0-clause-still : goal.returns-then-count-eq0-clause-still
+returns-then-count-eq0-clause-still g c told = absurd (never_waits c.loop-fault.self c.scan.new.self c.in-Waits.ensures (c.loop-fault.invariant.unread told).1)
 
 pub returns-in-Line-clause-items : goal.returns-in-Line-clause-items
 returns-in-Line-clause-items g c =
