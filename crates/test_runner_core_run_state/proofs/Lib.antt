@@ -5,3 +5,4 @@ pub mod OtherRecords
 pub mod Totals
 pub mod Taken
 pub mod Begun
+pub mod Clones

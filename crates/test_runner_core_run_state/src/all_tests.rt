@@ -59,6 +59,16 @@ impl<A: KeepAttempts> AllTests<A> {
         }
     }
 
+    // A copy of them.
+    pub(crate) fn copy(&self, alloc: Global) -> Result<AllTests<A>, AllocError>
+        ensures { IfOk result (λ copy. copy ≡ self.now) }
+    {
+        Ok(AllTests {
+            tests: self.tests.copy(alloc)?,
+            running: self.running,
+        })
+    }
+
     // How many they are.
     pub(crate) fn len(&self) -> usize
         ensures count { result ≡ length self.now }

@@ -6,7 +6,7 @@ use test_runner_core_run_model::RunTest;
 /// How the ended attempts of a test are kept: as statuses for who looks at them (`KeptStatuses`),
 /// or as records, in less memory (`KeptRecords`).
 pub trait KeepAttempts: Drop {
-    ghost use Rattle.std.specs.Prelude.{◌≡◌, ℕ, ◌+◌, ◌<◌, ◌≤◌, List, [], ◌∷◌, ◌++◌, OnOk, length};
+    ghost use Rattle.std.specs.Prelude.{◌≡◌, ℕ, ◌+◌, ◌<◌, ◌≤◌, List, [], ◌∷◌, ◌++◌, IfOk, OnOk, length};
     ghost use Rattle.nextest_run_events_counters.specs.Counting.{CanCountTest};
     ghost use Rattle.nextest_run_events_results.specs.Result.{is_success};
     ghost use Rattle.nextest_run_events_results.specs.declared.record.Record.{Record};
@@ -52,6 +52,13 @@ pub trait KeepAttempts: Drop {
         requires next { attempt ≡ length (records self.old) + 1 }
         ensures records { records self.new ≡ records self.old ++ record_of ending ∷ [] }
         ensures of { are_of plan self.new };
+
+    /// A copy of them, with room for an attempt where these have. It fails only on allocation.
+    fn copy(&self, alloc: Global) -> Result<Self, AllocError>
+        ensures records { IfOk result (λ copy. records copy ≡ records self.now) }
+        ensures room { IfOk result (λ copy. 0 < room self.now → 0 < room copy) }
+        ensures of { IfOk result
+            (λ copy. (plan : RunTest) → are_of plan self.now → are_of plan copy) };
 
     /// Counts a finished test with this plan by these attempts, if there is one.
     fn count_in(&self, plan: RunTest, stats: &mut RunStats)

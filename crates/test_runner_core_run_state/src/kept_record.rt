@@ -107,6 +107,31 @@ impl KeptRecord {
     }
 }
 
+impl Clone for KeptRecord {
+    ghost use Rattle.std.specs.Prelude.{◌≡◌};
+
+    ghost is_clone = { λ original copy. copy ≡ original };
+
+    fn clone(&self) -> Result<KeptRecord, AllocError> {
+        Ok(KeptRecord {
+            record: copy_in(&self.record)?,
+        })
+    }
+}
+
+// A copy of a record.
+fn copy_in(kept: &ShortRecord) -> Result<ShortRecord, AllocError>
+    ensures { IfOk result (λ copy. record_kept copy ≡ record_kept kept.now) }
+{
+    match kept {
+        ShortRecord::Passed { slow, nanos } => Ok(ShortRecord::Passed {
+            slow: *slow,
+            nanos: *nanos,
+        }),
+        ShortRecord::Whole(whole) => Ok(ShortRecord::Whole(whole.clone()?)),
+    }
+}
+
 // Whether a record is that of a pass without outputs.
 fn is_short(ending: &Record) -> bool
     ensures passed { OnTrue result (ending.now.result ≡ ended.Pass) }

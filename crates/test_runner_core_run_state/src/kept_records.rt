@@ -1,9 +1,10 @@
 // Ended attempts, kept as their records.
-ghost use Rattle.std.specs.Prelude.{◌≡◌, ◌<◌, ◌≤◌, ◌∷◌, ◌++◌, [], OnOk, map};
+ghost use Rattle.std.specs.Prelude.{◌≡◌, ◌<◌, ◌≤◌, ◌∷◌, ◌++◌, [], IfOk, OnOk, map};
 ghost use Rattle.nextest_run_events_results.specs.declared.record.Record.{Record};
 ghost use Rattle.test_runner_core_run_state.specs.Kept.{record_room, records_of};
 ghost use Rattle.test_runner_core_run_state.specs.Records.{unwritten};
 
+use crate::copying::copied;
 use crate::keep_attempts::KeepAttempts;
 use crate::kept_record::KeptRecord;
 use nextest_run_events_counters::RunStats;
@@ -91,6 +92,12 @@ impl KeepAttempts for KeptRecords {
         push_in(&mut self.records, ending);
     }
 
+    fn copy(&self, alloc: Global) -> Result<KeptRecords, AllocError> {
+        Ok(KeptRecords {
+            records: copy_in(&self.records, alloc)?,
+        })
+    }
+
     fn count_in(&self, plan: RunTest, stats: &mut RunStats) {
         let records = self.as_slice();
         let late = records.len() > 1;
@@ -146,6 +153,21 @@ fn push_in(records: &mut RecordsSlot, ending: KeptRecord)
             RecordsSlot::Several(several)
         }
     };
+}
+
+// A copy of records, with room for one where these have.
+fn copy_in(records: &RecordsSlot, alloc: Global) -> Result<RecordsSlot, AllocError>
+    ensures records { IfOk result (λ copy. records_of copy ≡ records_of records.now) }
+    ensures room { IfOk result (λ copy. 0 < record_room records.now → 0 < record_room copy) }
+{
+    match records {
+        RecordsSlot::Empty => Ok(RecordsSlot::Empty),
+        RecordsSlot::One(only) => Ok(RecordsSlot::One(only.clone()?)),
+        RecordsSlot::Several(several) => {
+            let copy = copied(alloc, several.as_slice(), several.capacity())?;
+            Ok(RecordsSlot::Several(copy))
+        }
+    }
 }
 
 // Forgets the outputs of the attempts.

@@ -1,9 +1,10 @@
 // Ended attempts, kept as statuses.
-ghost use Rattle.std.specs.Prelude.{◌≡◌, ◌<◌, ◌≤◌, [], ◌∷◌, ◌++◌, None, Some, MatchOption, OnOk, length};
+ghost use Rattle.std.specs.Prelude.{◌≡◌, ◌<◌, ◌≤◌, [], ◌∷◌, ◌++◌, None, Some, MatchOption, IfOk, OnOk, length};
 ghost use Rattle.test_runner_core_run_model.specs.declared.run_test.RunTest.{RunTest as Plan};
 ghost use Rattle.test_runner_core_run_state.specs.Kept.{statuses_in, room_in, rule_in, records_in, AreKept, KeepsAttempts, KeepsRule};
 ghost use Rattle.test_runner_core_run_state.specs.Statuses.{AreAttempts};
 
+use crate::copying::copied;
 use crate::keep_attempts::KeepAttempts;
 use crate::recorded::execute_status;
 use nextest_config_elements_choices::FlakyResult;
@@ -112,6 +113,12 @@ impl KeepAttempts for KeptStatuses {
         push_in(&mut self.attempts, status, plan.flaky);
     }
 
+    fn copy(&self, alloc: Global) -> Result<KeptStatuses, AllocError> {
+        Ok(KeptStatuses {
+            attempts: copy_in(&self.attempts, alloc)?,
+        })
+    }
+
     fn count_in(&self, _plan: RunTest, stats: &mut RunStats) {
         if let Some(attempts) = self.attempts() {
             stats.on_test_finished(attempts);
@@ -161,4 +168,35 @@ fn push_in(attempts: &mut SlotAttempts, status: ExecuteStatus<LiveSpec>, flaky: 
             SlotAttempts::Ended(ended)
         }
     };
+}
+
+// A copy of what a slot holds, with room for an attempt where there was any.
+fn copy_in(attempts: &SlotAttempts, alloc: Global) -> Result<SlotAttempts, AllocError>
+    requires { KeepsAttempts attempts.now }
+    ensures room { IfOk result (λ copy. 0 < room_in attempts.now → 0 < room_in copy) }
+    ensures statuses { IfOk result (λ copy. statuses_in copy ≡ statuses_in attempts.now) }
+    ensures rule { IfOk result (λ copy. rule_in copy ≡ rule_in attempts.now) }
+    ensures attempts { IfOk result (λ copy. KeepsAttempts copy) }
+{
+    match attempts {
+        SlotAttempts::Empty => Ok(SlotAttempts::Empty),
+        SlotAttempts::Reserved(_) => Ok(SlotAttempts::Reserved(Vec::with_capacity(alloc, 1)?)),
+        SlotAttempts::Ended(ended) => Ok(SlotAttempts::Ended(roomy_copy(alloc, ended)?)),
+    }
+}
+
+// A copy of attempts, with room for one more.
+fn roomy_copy(
+    alloc: Global,
+    ended: &ExecutionStatuses<LiveSpec>,
+) -> Result<ExecutionStatuses<LiveSpec>, AllocError>
+    ensures room { IfOk result (λ copy. 0 < copy.room) }
+    ensures statuses { IfOk result (λ copy. copy.statuses ≡ ended.now.statuses) }
+    ensures rule { IfOk result (λ copy. copy.flaky_result ≡ ended.now.flaky_result) }
+{
+    let attempts = ended.as_slice();
+    let statuses = copied(alloc, attempts, attempts.len() + 1)?;
+    let mut copy = ExecutionStatuses::new(Listing::from(statuses), ended.flaky_result());
+    copy.reserve_one()?;
+    Ok(copy)
 }

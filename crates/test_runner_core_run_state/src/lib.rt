@@ -4,6 +4,7 @@
 #![tactic(auto)]
 
 mod all_tests;
+mod copying;
 mod keep_attempts;
 mod kept_record;
 mod kept_records;

@@ -74,6 +74,23 @@ impl<A: KeepAttempts> Model for Progress<A> {
     ghost invariant = { λ p. p.stats ≡ counters (state_of p.scripts p.tests p.stats p.limit) };
 }
 
+impl<A: KeepAttempts> Clone for Progress<A> {
+    ghost use Rattle.std.specs.Prelude.{◌≡◌};
+
+    ghost is_clone = { λ original copy. copy ≡ original };
+
+    /// A run as far as this one, which goes on by itself. It fails only on allocation.
+    fn clone(&self) -> Result<Progress<A>, AllocError> {
+        Ok(Progress {
+            alloc: self.alloc,
+            scripts: self.scripts.copy(self.alloc)?,
+            tests: self.tests.copy(self.alloc)?,
+            stats: self.stats,
+            limit: self.limit,
+        })
+    }
+}
+
 impl<A: KeepAttempts> Progress<A> {
     /// The run in which nothing ended, of so many scripts and of these tests, where `skipped`
     /// others were skipped. Makes the room for each script's status; the tests' states are made by
@@ -112,8 +129,8 @@ impl<A: KeepAttempts> Progress<A> {
     }
 
     /// An attempt of the test at a place starts: reserves the room of its end, and that of all
-    /// tests' states where it isn't made. An `Err` says why it can't start now, or that there was no memory, and
-    /// leaves everything as it was.
+    /// tests' states where it isn't made. An `Err` says why it can't start now, or that there was
+    /// no memory, and leaves everything as it was.
     pub fn start(&mut self, test: usize) -> Result<(), StartFault>
         ensures { Starts self.old test result self.new }
     {

@@ -2,6 +2,7 @@
 ghost use Rattle.std.specs.Prelude.{◌≡◌, ◌^◌, ◌<◌, [], ◌∷◌, ◌++◌, IfOk, length, slice_get};
 ghost use Rattle.test_runner_core_run_state.specs.Statuses.{IsScriptStatus, IsScriptStatusOf, script_record_of};
 
+use crate::copying::copied;
 use nextest_run_events_outputs::{LiveSpec, SetupScriptExecuteStatus};
 use std::alloc::{AllocError, Global};
 use std::marker::Model;
@@ -38,6 +39,16 @@ impl Scripts {
         Ok(Scripts {
             planned,
             statuses: Vec::with_capacity(alloc, planned)?,
+        })
+    }
+
+    // A copy of them, with the room of their statuses.
+    pub(crate) fn copy(&self, alloc: Global) -> Result<Scripts, AllocError>
+        ensures { IfOk result (λ copy. copy ≡ self.now) }
+    {
+        Ok(Scripts {
+            planned: self.planned,
+            statuses: copied(alloc, self.statuses.as_slice(), self.planned)?,
         })
     }
 

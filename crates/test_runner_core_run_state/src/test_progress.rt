@@ -1,5 +1,5 @@
 // How far one test is.
-ghost use Rattle.std.specs.Prelude.{◌≡◌, ◌||◌, false, nat_le, is_some, Some, OnOk, OnErr, if◌then◌else◌};
+ghost use Rattle.std.specs.Prelude.{◌≡◌, ◌||◌, false, nat_le, is_some, Some, IfOk, OnOk, OnErr, if◌then◌else◌};
 ghost use Rattle.nextest_run_events_counters.specs.Counting.{CanCountTest};
 ghost use Rattle.test_runner_core_run_model.specs.State.{State, waiting, is_finished};
 ghost use Rattle.test_runner_core_run_model.specs.Step.{after_attempt, finished_by, finishes};
@@ -55,6 +55,17 @@ impl<A: KeepAttempts> TestProgress<A> {
             attempts: A::new(),
             mark: Mark::Waiting,
         }
+    }
+
+    // A copy of it, with room for the end of the attempt that runs.
+    pub(crate) fn copy(&self, alloc: Global) -> Result<TestProgress<A>, AllocError>
+        ensures { IfOk result (λ copy. copy ≡ self.now) }
+    {
+        Ok(TestProgress {
+            plan: self.plan,
+            attempts: self.attempts.copy(alloc)?,
+            mark: self.mark,
+        })
     }
 
     // What is planned of it.

@@ -66,6 +66,17 @@ impl<A: KeepAttempts> TestStates<A> {
         }
     }
 
+    // A copy of them.
+    pub(crate) fn copy(&self, alloc: Global) -> Result<TestStates<A>, AllocError>
+        ensures { IfOk result (λ copy. copy ≡ self.now) }
+    {
+        Ok(TestStates {
+            planned: self.planned.clone()?,
+            tests: copies(alloc, self.tests.as_slice())?,
+            unstarted: A::new(),
+        })
+    }
+
     // How many they are.
     pub(crate) fn len(&self) -> usize
         ensures count { result ≡ length self.now }
@@ -233,6 +244,20 @@ fn waiting_tests<A: KeepAttempts>(
         tests.push(TestProgress::new(*plan))?;
     }
     Ok(tests)
+}
+
+// Copies of tests.
+fn copies<A: KeepAttempts>(
+    alloc: Global,
+    tests: &[TestProgress<A>],
+) -> Result<Vec<TestProgress<A>>, AllocError>
+    ensures { IfOk result (λ copy. copy.items ≡ tests.now) }
+{
+    let mut copy = Vec::with_capacity(alloc, tests.len())?;
+    for test in tests {
+        copy.push(test.copy(alloc)?)?;
+    }
+    Ok(copy)
 }
 
 // An attempt of the test at a place starts. An `Err` changes nothing.

@@ -7,6 +7,7 @@ use indexmap::IndexSet;
 use nextest_run_events_results::TestInstanceId;
 use std::alloc::{AllocError, Global};
 use std::marker::Model;
+use std::rc::Rc;
 use test_runner_core_plan::{KeyedState, PlanTest, TextsDigest};
 
 // The names of tests, lent, in the order of the tests; of a name that several have, the first.
@@ -16,8 +17,8 @@ type Names<'a> = IndexSet<TestInstanceId<'a>, KeyedState>;
 #[derive(Drop)]
 pub(crate) struct Places<'a> {
     tests: &'a [PlanTest],
-    // Their names, once they were put in.
-    index: Option<Names<'a>>,
+    // Their names, once they were put in, in memory that copies share.
+    index: Option<Rc<Names<'a>>>,
     // The place that was found last, where the next look-up begins.
     last: usize,
     // Whether it was that of the look-up before or the next.
@@ -27,6 +28,8 @@ pub(crate) struct Places<'a> {
 
 impl<'a> Model for Places<'a> {
     ghost use Rattle.std.specs.Prelude.{List, map};
+    ghost use Rattle.std.specs.Option.{option_map};
+    ghost use Rattle.std.specs.Rc.{rc_value};
     ghost use Rattle.nextest_run_events_results.specs.declared.instance.OwnedTestInstanceId.{OwnedTestInstanceId};
     ghost use Rattle.test_runner_core_session.specs.Names.{IsIndexIfMade, names};
 
@@ -34,7 +37,21 @@ impl<'a> Model for Places<'a> {
 
     ghost view = { λ p. map (λ test. test.instance) p.tests.now };
 
-    ghost invariant = { λ p. IsIndexIfMade p.index (names p.tests.now) };
+    ghost invariant = { λ p. IsIndexIfMade (option_map rc_value p.index) (names p.tests.now) };
+}
+
+impl<'a> Clone for Places<'a> {
+    ghost use Rattle.std.specs.Prelude.{◌≡◌};
+
+    ghost is_clone = { λ original copy. copy ≡ original };
+
+    // The index is shared.
+    fn clone(&self) -> Result<Places<'a>, AllocError> {
+        Ok(Places {
+            index: self.index.clone()?,
+            ..*self
+        })
+    }
 }
 
 impl<'a> Places<'a> {
@@ -51,14 +68,14 @@ impl<'a> Places<'a> {
         }
     }
 
-    // Makes the index of the tests by name, where that isn't done yet, so that no look-up takes time
-    // in proportion to the tests, unless some have one name. It fails only on allocation, and leaves
-    // everything as it was.
+    // Makes the index of the tests by name, where that isn't done yet, so that no look-up takes
+    // time in proportion to the tests, unless some have one name. It fails only on allocation, and
+    // leaves everything as it was.
     pub(crate) fn make_index(&mut self) -> Result<(), AllocError>
         ensures { self.new ≡ self.old }
     {
         if self.index.is_none() {
-            self.index = Some(names_of(self.alloc, self.tests)?);
+            self.index = Some(shared_names_of(self.alloc, self.tests)?);
         }
         Ok(())
     }
@@ -99,6 +116,14 @@ impl<'a> Places<'a> {
         }
         place
     }
+}
+
+// The names of tests, lent, in memory that copies share.
+fn shared_names_of<'a>(alloc: Global, tests: &'a [PlanTest]) -> Result<Rc<Names<'a>>, AllocError>
+    ensures { IfOk result (λ it. IsIndex it.value.keys (names tests.now)) }
+{
+    let names = names_of(alloc, tests)?;
+    Ok(Rc::new(alloc, names)?)
 }
 
 // The names of tests, lent.

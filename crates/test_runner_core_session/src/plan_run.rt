@@ -60,6 +60,22 @@ impl<'a, A: KeepAttempts> Model for PlanRun<'a, A> {
     ghost invariant = { λ s. s.places ≡ names_of s.plan.now };
 }
 
+impl<'a, A: KeepAttempts> Clone for PlanRun<'a, A> {
+    ghost use Rattle.std.specs.Prelude.{◌≡◌};
+
+    ghost is_clone = { λ original copy. copy ≡ original };
+
+    /// A run as far as this one, of the same plan, which goes on by itself. The index of the tests
+    /// by name is shared. It fails only on allocation.
+    fn clone(&self) -> Result<PlanRun<'a, A>, AllocError> {
+        Ok(PlanRun {
+            plan: self.plan,
+            places: self.places.clone()?,
+            progress: self.progress.clone()?,
+        })
+    }
+}
+
 impl<'a, A: KeepAttempts> PlanRun<'a, A> {
     /// The run in which nothing ended. Makes the room for each script's status and each test's
     /// state, and the index of the tests by name. It fails only on allocation.
