@@ -85,8 +85,10 @@ pub looks_found : (result : Result Next LogFault) (next : Next) (old mid new : C
     → (tells_next mid ≡ true → rest ≡ left) → IsNear new → (result ≡ Ok found_is.Line → length new.waiting < READ_LIMIT) → LooksNear (Ok next) old left new rest before waited after waits
 looks_found result found_is.Line old mid new left rest before after waited waits is (inl told) still near few = (few is, inl (still told))
 looks_found result found_is.Line old mid new left rest before after waited waits is (inr empty) still near few = (few is, inr empty)
-looks_found result (found_is.Refused fault) old mid new left rest before after waited waits is ready still near few = near
-looks_found result found_is.End old mid new left rest before after waited waits is ready still near few = near
+looks_found result (found_is.Refused fault) old mid new left rest before after waited waits is (inl told) still near few = (near, inl (still told))
+looks_found result (found_is.Refused fault) old mid new left rest before after waited waits is (inr empty) still near few = (near, inr empty)
+looks_found result found_is.End old mid new left rest before after waited waits is (inl told) still near few = (near, inl (still told))
+looks_found result found_is.End old mid new left rest before after waited waits is (inr empty) still near few = (near, inr empty)
 
 -- the same bytes are ahead
 items_unmoved : (old mid : Cursor) (ahead : List ℕ) → Unmoved old mid → items_ahead old ahead ≡ items_ahead mid ahead

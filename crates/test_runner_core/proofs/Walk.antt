@@ -29,7 +29,7 @@ use Rattle.test_runner_core_reporter.proofs.KeptReports.{all_as, front_as}
 use Rattle.test_runner_core_reporter.proofs.Told.{all_then, front_then, moves_then}
 use Rattle.test_runner_core.specs.Faults.{fault_of_reporting}
 use Rattle.test_runner_core.specs.Inside.{BegunLines, GotLines, HandsNext, IsLogOf, JudgesLine, JudgesLines, KeepsJudged, kept_event}
-use Rattle.test_runner_core.specs.Near.{NearAhead, ReportsNear}
+use Rattle.test_runner_core.specs.Near.{BeginsWith, NearAhead}
 use Rattle.test_runner_core.specs.declared.judge_fault.JudgeFault.{JudgeFault}
 use Rattle.test_runner_core.specs.declared.judge_fault.JudgeFault.TheVariants as fault
 use Rattle.test_runner_core.specs.declared.refused_line.RefusedLine.{RefusedLine}
@@ -60,8 +60,18 @@ pub record Where (plan : Plan) (begin : Cursor) (known before : Option (List ℕ
   pub bytes : TakesLines begin known front cursor left
   pub numbered : number ≡ length front + 1
 
--- how far the log was read: nothing was taken of it, or the line is near behind some whose report
--- was written whole
+-- the line is near behind some whose report was written whole
+pub record ReportsNear (plan : Plan) (log : List Item) (before after : Option (List ℕ)) (Near : ℕ → Type 0) : Type 0 where
+  pub front : List (List ℕ)
+  pub rest : List Item
+  pub whole : log ≡ map Line front ++ rest
+  pub last : State
+  pub parts : List Part
+  pub so_far : SoFar plan front last parts
+  pub written : BeginsWith parts before after
+  pub near : Near (length front + 1)
+
+-- how far the log was read: nothing was taken of it, or such a line is near
 abbrev pub ReadNear : Plan → Cursor → Option (List ℕ) → Option (List ℕ) → Option (List ℕ) → Option (List ℕ) → Type 0
 ReadNear plan begin known before left after = (left ≡ known) ⊎ NearAhead begin known left (λ log. ReportsNear plan log before after)
 

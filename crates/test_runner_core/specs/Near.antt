@@ -37,9 +37,9 @@ pub record IsTakenNear (count : ℕ) (bytes rest : List ℕ) : Type 0 where
   pub whole : bytes ≡ taken ++ rest
   pub near : length (behind_feeds count taken) < READ_LIMIT
 
--- the line that decides is near: the first that is refused, or the one that would be behind the
--- log's last
-pub record DecidesNear (plan : Plan) (log : List Item) (Near : ℕ → Type 0) : Type 0 where
+-- the number of the line that decides: the first that is refused, or the one that would be behind
+-- the log's last
+pub record Decides (plan : Plan) (log : List Item) (number : ℕ) : Type 0 where
   pub front : List (List ℕ)
   pub rest : List Item
   pub whole : log ≡ map Line front ++ rest
@@ -47,69 +47,65 @@ pub record DecidesNear (plan : Plan) (log : List Item) (Near : ℕ → Type 0) :
   pub last : State
   pub leads : Leads plan front events last
   pub found : Option RefusedLine
-  pub finds : Finds plan last (length front + 1) rest found
-  pub near : Near (length front + 1)
+  pub finds : Finds plan last number rest found
+  pub numbered : number ≡ length front + 1
 
 -- what was written begins with the text of these parts
 abbrev pub BeginsWith : List Part → Option (List ℕ) → Option (List ℕ) → Type 0
 BeginsWith parts before after = (told : List ℕ) × IsTextOf parts told × ((more : List ℕ) × Appends before after (told ++ more))
 
--- the line is near behind some whose report was written whole
-pub record ReportsNear (plan : Plan) (log : List Item) (before after : Option (List ℕ)) (Near : ℕ → Type 0) : Type 0 where
+-- the number of a line up to which the report was not written whole: what was written doesn't
+-- begin with what the log's lines up to it report. Nought, where the plan's warnings weren't
+pub record IsUnwritten (plan : Plan) (log : List Item) (before after : Option (List ℕ)) (number : ℕ) : Type 0 where
   pub front : List (List ℕ)
   pub rest : List Item
   pub whole : log ≡ map Line front ++ rest
   pub last : State
   pub parts : List Part
   pub so_far : SoFar plan front last parts
-  pub written : BeginsWith parts before after
-  pub near : Near (length front + 1)
+  pub unwritten : ¬ BeginsWith parts before after
+  pub numbered : number ≡ length front
 
--- what a call ends with is near: where it fails by a write or for memory, the log's beginning, or
--- the line behind those whose report was written whole, or the line that decides, and else this
--- one. A failed read is left out, since all that is got then is told by what is reported
-abbrev pub EndsNear : {A : Type 0} → Result A JudgeFault → Plan → List Item → Option (List ℕ) → Option (List ℕ) → (ℕ → Type 0) → Type 0
-EndsNear (Ok value) plan log before after Near = DecidesNear plan log Near
-EndsNear (Err (fault.Read cause)) plan log before after Near = ⊤
-EndsNear (Err (fault.Write cause)) plan log before after Near = Near 0 ⊎ (ReportsNear plan log before after Near ⊎ DecidesNear plan log Near)
-EndsNear (Err fault.Memory) plan log before after Near = Near 0 ⊎ (ReportsNear plan log before after Near ⊎ DecidesNear plan log Near)
+-- the line that decides is near, and so is each up to which the report was not written whole
+abbrev pub EndsNear : Plan → List Item → Option (List ℕ) → Option (List ℕ) → (ℕ → Type 0) → Type 0
+EndsNear plan log before after Near =
+    ((number : ℕ) → Decides plan log number → Near number) × ((number : ℕ) → IsUnwritten plan log before after number → Near number)
 
 -- the same of inputs: of those without a plan, the log's beginning is near
-abbrev pub JudgesNear : {A : Type 0} → Result A JudgeFault → (Binary → Answer) → Inputs → List Item → Option (List ℕ) → Option (List ℕ) → (ℕ → Type 0) → Type 0
-JudgesNear result answer inputs log before after Near = Near 0 ⊎ ((plan : Plan) × Builds answer inputs (Ok plan) × EndsNear result plan log before after Near)
+abbrev pub JudgesNear : (Binary → Answer) → Inputs → List Item → Option (List ℕ) → Option (List ℕ) → (ℕ → Type 0) → Type 0
+JudgesNear answer inputs log before after Near = Near 0 ⊎ ((plan : Plan) × Builds answer inputs (Ok plan) × EndsNear plan log before after Near)
 
 -- of a log, of which these bytes are left before a call and after it, where both are known
-abbrev pub LogNear : {A : Type 0} → Result A JudgeFault → (Binary → Answer) → Inputs → Option (List ℕ) → Option (List ℕ) → Option (List ℕ) → Option (List ℕ) → Type 0
-LogNear result answer inputs left rest before after =
-    IfSome left (λ bytes. IfSome rest (λ behind. JudgesNear result answer inputs (items 0 bytes) before after (λ count. IsTakenNear count bytes behind)))
+abbrev pub LogNear : (Binary → Answer) → Inputs → Option (List ℕ) → Option (List ℕ) → Option (List ℕ) → Option (List ℕ) → Type 0
+LogNear answer inputs left rest before after =
+    IfSome left (λ bytes. IfSome rest (λ behind. JudgesNear answer inputs (items 0 bytes) before after (λ number. IsTakenNear number bytes behind)))
 
 -- of a stream: the first line, or what is near in the log behind it
-abbrev pub StreamNear : {A : Type 0} → Result A JudgeFault → Option (List ℕ) → Option (List ℕ) → Option (List ℕ) → Option (List ℕ) → Type 0
-StreamNear result left rest before after =
+abbrev pub StreamNear : Option (List ℕ) → Option (List ℕ) → Option (List ℕ) → Option (List ℕ) → Type 0
+StreamNear left rest before after =
     IfSome left (λ bytes. IfSome rest (λ behind. IsTakenNear 1 bytes behind
     ⊎ ((inputs : Inputs) × (read_inputs (before_feed bytes) ≡ Ok inputs)
-    × JudgesNear result (table_of inputs) inputs (items 0 (behind_feed bytes)) before after (λ count. IsTakenNear (count + 1) bytes behind))))
+    × JudgesNear (table_of inputs) inputs (items 0 (behind_feed bytes)) before after (λ number. IsTakenNear (number + 1) bytes behind))))
 
 -- of the bytes ahead, those that wait and those that the reader gives
 abbrev pub NearAhead : Cursor → Option (List ℕ) → Option (List ℕ) → (List Item → (ℕ → Type 0) → Type 0) → Type 0
 NearAhead begin left rest Holds =
-    IfSome left (λ bytes. IfSome rest (λ behind. Holds (items_ahead begin bytes) (λ count. IsTakenNear count (begin.waiting ++ bytes) behind)))
+    IfSome left (λ bytes. IfSome rest (λ behind. Holds (items_ahead begin bytes) (λ number. IsTakenNear number (begin.waiting ++ bytes) behind)))
 
 -- behind few bytes that wait, a call that goes by lines ends near, and so does one by inputs
-abbrev pub LinesNear : {A : Type 0} → Result A JudgeFault → Plan → Cursor → Option (List ℕ) → Option (List ℕ) → Option (List ℕ) → Option (List ℕ) → Type 0
-LinesNear result plan begin left rest before after =
-    length begin.waiting < READ_LIMIT → NearAhead begin left rest (λ log. EndsNear result plan log before after)
+abbrev pub LinesNear : Plan → Cursor → Option (List ℕ) → Option (List ℕ) → Option (List ℕ) → Option (List ℕ) → Type 0
+LinesNear plan begin left rest before after =
+    length begin.waiting < READ_LIMIT → NearAhead begin left rest (λ log. EndsNear plan log before after)
 
-abbrev pub InputsNear : {A : Type 0} → Result A JudgeFault → Inputs → Cursor → Option (List ℕ) → Option (List ℕ) → Option (List ℕ) → Option (List ℕ) → Type 0
-InputsNear result inputs begin left rest before after =
-    length begin.waiting < READ_LIMIT → NearAhead begin left rest (λ log. JudgesNear result (table_of inputs) inputs log before after)
+abbrev pub InputsNear : Inputs → Cursor → Option (List ℕ) → Option (List ℕ) → Option (List ℕ) → Option (List ℕ) → Type 0
+InputsNear inputs begin left rest before after =
+    length begin.waiting < READ_LIMIT → NearAhead begin left rest (λ log. JudgesNear (table_of inputs) inputs log before after)
 
 -- looking for the next line reads nothing, or only once all is written that was reported; few bytes
--- wait behind the line that is found
+-- wait behind the line that is found. What a failed read leaves is told with what is handed out
 abbrev pub LooksNear : Result Next JudgeFault → Cursor → Option (List ℕ) → Cursor → Option (List ℕ) → Option (List ℕ) → List ℕ → Option (List ℕ) → List ℕ → Type 0
 LooksNear (Ok found_is.Line) old left new rest before waited after waits = (length new.waiting < READ_LIMIT) × ((rest ≡ left) ⊎ (waits ≡ []))
-LooksNear (Ok (found_is.Refused fault)) old left new rest before waited after waits = IsNear new
-LooksNear (Ok found_is.End) old left new rest before waited after waits = IsNear new
+LooksNear (Ok other) old left new rest before waited after waits = IsNear new × ((rest ≡ left) ⊎ (waits ≡ []))
 LooksNear (Err (fault.Read cause)) old left new rest before waited after waits = ⊤
 LooksNear (Err (fault.Write cause)) old left new rest before waited after waits = rest ≡ left
 LooksNear (Err fault.Memory) old left new rest before waited after waits =

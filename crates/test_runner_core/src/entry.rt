@@ -33,7 +33,7 @@ use test_runner_core_workspace::{Lister, TableLister};
 /// asked for more, all is written that the whole lines so far come to: that is said, in `reports`,
 /// of a read that fails. No read asks for more than `READ_LIMIT` bytes, which a `LogReader` may
 /// rely on; and where the reader's bytes are known, fewer than that many are taken past the line
-/// with which the call ends (`near`).
+/// that decides, and past each line up to which the report was not written whole (`near`).
 ///
 /// Where no line is refused, the log agrees with an assignment and has no stop, and the run is
 /// complete, the status is that assignment's due status, and where no script of the assignment
@@ -72,8 +72,8 @@ pub fn judge<L: Lister, R: LogReader, W: ReportWriter>(
     ensures unread { (refusal : PlanFault) → Plans (L.answer lister.old) inputs.now (Err refusal)
         → R.calls log.new ≡ R.calls log.old }
     ensures reads { R.calls log.new ≤ R.calls log.old + log_reads }
-    ensures near { LogNear result (L.answer lister.old) inputs.now (R.left log.old)
-        (R.left log.new) (W.taken report.old) (W.taken report.new) }
+    ensures near { LogNear (L.answer lister.old) inputs.now (R.left log.old) (R.left log.new)
+        (W.taken report.old) (W.taken report.new) }
     ensures read_failures { CountsReadFailures result (R.failures log.old) (R.failures log.new)
         (R.last_failed log.new) }
     ensures write_failures { CountsWriteFailures result (W.failures report.old)
@@ -91,8 +91,9 @@ pub fn judge<L: Lister, R: LogReader, W: ReportWriter>(
 /// 16,777,216 bytes is no inputs. Where the first line is no inputs or they have no plan, the
 /// reader is called for that line alone: each call but the last brings some of its bytes
 /// (`unread`). No read asks for more than `READ_LIMIT` bytes, and fewer than that many are taken
-/// past the line with which the call ends (`near`). The stream is that of the bytes that the reader
-/// has left; where these aren't known, all this holds of some stream.
+/// past the line that decides, and past each up to which the report was not written whole (`near`).
+/// The stream is that of the bytes that the reader has left; where these aren't known, all this
+/// holds of some stream.
 ///
 /// # Errors
 ///
@@ -116,7 +117,7 @@ pub fn judge_stream<R: LogReader, W: ReportWriter>(
     ensures unread { IfSome (R.left input.old) (λ bytes. HasNoPlan (read_inputs (before_feed bytes))
         → R.calls input.new ≤ R.calls input.old + length (before_feed bytes) + 1) }
     ensures reads { R.calls input.new ≤ R.calls input.old + first_line_reads + log_reads }
-    ensures near { StreamNear result (R.left input.old) (R.left input.new) (W.taken report.old)
+    ensures near { StreamNear (R.left input.old) (R.left input.new) (W.taken report.old)
         (W.taken report.new) }
     ensures read_failures { CountsReadFailures result (R.failures input.old) (R.failures input.new)
         (R.last_failed input.new) }
@@ -158,7 +159,7 @@ fn judge_by_table<R: LogReader, W: ReportWriter>(
     ensures unread { (refusal : PlanFault) → Plans (table_of inputs) inputs (Err refusal)
         → R.calls log.new ≡ R.calls log.old }
     ensures reads { R.calls log.new ≤ R.calls log.old + log_reads }
-    ensures near { InputsNear result inputs lines.old (R.left log.old) (R.left log.new)
+    ensures near { InputsNear inputs lines.old (R.left log.old) (R.left log.new)
         (W.taken report.old) (W.taken report.new) }
     ensures read_failures { CountsReadFailures result (R.failures log.old) (R.failures log.new)
         (R.last_failed log.new) }

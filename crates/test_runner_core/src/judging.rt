@@ -37,7 +37,7 @@ pub(crate) fn judge_lines<R: LogReader, W: ReportWriter>(
     ensures plan { IfOk result (λ _. session.new.plan ≡ session.old.plan) }
     ensures judged { JudgesLines result session.old.plan session.new.run lines.old (R.left log.old)
         (R.left log.new) (W.taken report.old) (W.taken report.new) (string_bytes text.new) }
-    ensures near { LinesNear result session.old.plan lines.old (R.left log.old) (R.left log.new)
+    ensures near { LinesNear session.old.plan lines.old (R.left log.old) (R.left log.new)
         (W.taken report.old) (W.taken report.new) }
     ensures reads { R.calls log.new ≤ R.calls log.old + log_reads }
     ensures read_failures { CountsReadFailures result (R.failures log.old) (R.failures log.new)

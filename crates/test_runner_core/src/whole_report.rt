@@ -38,7 +38,7 @@ pub(crate) fn judge_plan<R: LogReader, W: ReportWriter>(
     ensures reports { Reports result (IsJudged plan.now lines.old (R.left log.old))
         (IsGot plan.now lines.old (R.left log.old) (R.left log.new))
         (IsBegun plan.now lines.old (R.left log.old)) (W.taken report.old) (W.taken report.new) }
-    ensures near { LinesNear result plan.now lines.old (R.left log.old) (R.left log.new)
+    ensures near { LinesNear plan.now lines.old (R.left log.old) (R.left log.new)
         (W.taken report.old) (W.taken report.new) }
     ensures status { IfOk result IsStatus }
     ensures reads { R.calls log.new ≤ R.calls log.old + log_reads }

@@ -4,7 +4,6 @@ use Rattle.test_runner_core_log_reader.specs.Items.{items}
 use Rattle.test_runner_core_reporter.proofs.Told.{front_none}
 use Rattle.test_runner_core.specs.Faults.{lacks_memory}
 use Rattle.test_runner_core.specs.Inside.{IsBegun, IsGot, IsJudged}
-use Rattle.test_runner_core.specs.declared.judge_fault.JudgeFault.TheVariants as fault
 use Rattle.test_runner_core.specs.Report.{Begun, Composed, GotTo, IsStatus, OfLeft, refused_plan}
 use Rattle.test_runner_core.proofs.Headline.{headline}
 use Rattle.test_runner_core.proofs.Left.{of_any, of_both, of_given}
@@ -124,19 +123,19 @@ pub returns-in-Ok-clause-near : goal.returns-in-Ok-clause-near
 returns-in-Ok-clause-near g c =
     let left = g.R.LogReader.left in
     let taken = g.W.ReportWriter.taken in
-    log_near c.judge_plan.result (g.L.Lister.answer c.args.lister.now) c.args.inputs.now c.in-Ok.plan c.new.result (left c.args.log.now) (left c.judge_plan.new.log) (taken c.args.report.now)
+    log_near (g.L.Lister.answer c.args.lister.now) c.args.inputs.now c.in-Ok.plan c.new.result (left c.args.log.now) (left c.judge_plan.new.log) (taken c.args.report.now)
     (taken c.judge_plan.new.report) c.new.ensures c.in-Ok.ensures.builds c.judge_plan.ensures.near
 
 pub returns-in_ok-refuse_plan-in-Err-Refused-clause-near : goal.returns-in_ok-refuse_plan-in-Err-Refused-clause-near
 returns-in_ok-refuse_plan-in-Err-Refused-clause-near g c =
-    log_unread (Ok c.in_ok-refuse_plan-in-Err-Refused.field-0) (g.L.Lister.answer c.args.lister.now) c.args.inputs.now (g.R.LogReader.left c.args.log.now) (g.W.ReportWriter.taken c.args.report.now)
+    log_unread (g.L.Lister.answer c.args.lister.now) c.args.inputs.now (g.R.LogReader.left c.args.log.now) (g.W.ReportWriter.taken c.args.report.now)
     (g.W.ReportWriter.taken c.refuse_plan.new.report)
 
 pub returns-in_err-refuse_plan-in-Err-Refused-clause-near : goal.returns-in_err-refuse_plan-in-Err-Refused-clause-near
 returns-in_err-refuse_plan-in-Err-Refused-clause-near g c =
-    log_unread c.from_residual.result (g.L.Lister.answer c.args.lister.now) c.args.inputs.now (g.R.LogReader.left c.args.log.now) (g.W.ReportWriter.taken c.args.report.now)
+    log_unread (g.L.Lister.answer c.args.lister.now) c.args.inputs.now (g.R.LogReader.left c.args.log.now) (g.W.ReportWriter.taken c.args.report.now)
     (g.W.ReportWriter.taken c.refuse_plan.new.report)
 
 pub returns-in-Err-OutOfMemory-clause-near : goal.returns-in-Err-OutOfMemory-clause-near
 returns-in-Err-OutOfMemory-clause-near g c =
-    log_unread (Err fault.Memory) (g.L.Lister.answer c.args.lister.now) c.args.inputs.now (g.R.LogReader.left c.args.log.now) (g.W.ReportWriter.taken c.args.report.now) (g.W.ReportWriter.taken c.args.report.now)
+    log_unread (g.L.Lister.answer c.args.lister.now) c.args.inputs.now (g.R.LogReader.left c.args.log.now) (g.W.ReportWriter.taken c.args.report.now) (g.W.ReportWriter.taken c.args.report.now)

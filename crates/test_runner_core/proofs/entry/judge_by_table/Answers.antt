@@ -1,10 +1,9 @@
-use Rattle.std.proofs.Common.{List, ℕ, [], Ok, Err, refl, inl, sym, subst}
+use Rattle.std.proofs.Common.{List, ℕ, [], refl, inl, sym, subst}
 use Rattle.test_runner_core_streams.specs.Left.{OfBytes}
 use Rattle.test_runner_core_log_reader.specs.Cursor.{items_ahead}
 use Rattle.test_runner_core_reporter.proofs.Told.{front_none}
 use Rattle.test_runner_core.specs.Inside.{IsBegun, IsGot, IsGotOf, IsJudged}
 use Rattle.test_runner_core.specs.Outcome.{table_of}
-use Rattle.test_runner_core.specs.declared.judge_fault.JudgeFault.TheVariants as fault
 use Rattle.test_runner_core.specs.Report.{Begun, Composed, HasSoFar, IsStatus, refused_plan}
 use Rattle.test_runner_core.proofs.Left.{given_any}
 use Rattle.test_runner_core.proofs.NearCalls.{inputs_near, inputs_unread}
@@ -69,18 +68,17 @@ pub returns-in-Ok-clause-near : goal.returns-in-Ok-clause-near
 returns-in-Ok-clause-near g c =
     let left = g.R.LogReader.left in
     let taken = g.W.ReportWriter.taken in
-    inputs_near c.judge_plan.result c.args.inputs c.in-Ok.plan c.args.lines.now (left c.args.log.now) (left c.judge_plan.new.log) (taken c.args.report.now) (taken c.judge_plan.new.report)
+    inputs_near c.args.inputs c.in-Ok.plan c.args.lines.now (left c.args.log.now) (left c.judge_plan.new.log) (taken c.args.report.now) (taken c.judge_plan.new.report)
     c.in-Ok.ensures c.judge_plan.ensures.near
 
 pub returns-in_ok-refuse_plan-in-Err-Refused-clause-near : goal.returns-in_ok-refuse_plan-in-Err-Refused-clause-near
 returns-in_ok-refuse_plan-in-Err-Refused-clause-near g c =
-    inputs_unread (Ok c.in_ok-refuse_plan-in-Err-Refused.field-0) c.args.inputs c.args.lines.now (g.R.LogReader.left c.args.log.now) (g.W.ReportWriter.taken c.args.report.now)
-    (g.W.ReportWriter.taken c.refuse_plan.new.report)
+    inputs_unread c.args.inputs c.args.lines.now (g.R.LogReader.left c.args.log.now) (g.W.ReportWriter.taken c.args.report.now) (g.W.ReportWriter.taken c.refuse_plan.new.report)
 
 pub returns-in_err-refuse_plan-in-Err-Refused-clause-near : goal.returns-in_err-refuse_plan-in-Err-Refused-clause-near
 returns-in_err-refuse_plan-in-Err-Refused-clause-near g c =
-    inputs_unread c.from_residual.result c.args.inputs c.args.lines.now (g.R.LogReader.left c.args.log.now) (g.W.ReportWriter.taken c.args.report.now) (g.W.ReportWriter.taken c.refuse_plan.new.report)
+    inputs_unread c.args.inputs c.args.lines.now (g.R.LogReader.left c.args.log.now) (g.W.ReportWriter.taken c.args.report.now) (g.W.ReportWriter.taken c.refuse_plan.new.report)
 
 pub returns-in-Err-OutOfMemory-clause-near : goal.returns-in-Err-OutOfMemory-clause-near
 returns-in-Err-OutOfMemory-clause-near g c =
-    inputs_unread (Err fault.Memory) c.args.inputs c.args.lines.now (g.R.LogReader.left c.args.log.now) (g.W.ReportWriter.taken c.args.report.now) (g.W.ReportWriter.taken c.args.report.now)
+    inputs_unread c.args.inputs c.args.lines.now (g.R.LogReader.left c.args.log.now) (g.W.ReportWriter.taken c.args.report.now) (g.W.ReportWriter.taken c.args.report.now)

@@ -9,7 +9,6 @@ use Rattle.test_runner_core_log_reader.specs.Calls.{PartsAtFirst}
 use Rattle.test_runner_core_log_reader.specs.Cursor.{Cursor, items_ahead}
 use Rattle.test_runner_core_log_reader.specs.Feeds.{before_feed}
 use Rattle.test_runner_core_reporter.proofs.Told.{front_none}
-use Rattle.test_runner_core.specs.declared.judge_fault.JudgeFault.TheVariants as fault
 use Rattle.test_runner_core.specs.Inside.{IsGotOf}
 use Rattle.test_runner_core.specs.Outcome.{HasNoPlan, StreamBegun, StreamComposed, StreamGotTo, table_of}
 use Rattle.test_runner_core.specs.Report.{Begun, Composed, HasSoFar, OfLeft, refused_inputs}
@@ -121,22 +120,22 @@ returns-in-Err-Refused-clause-headline g c =
 -- how near to the line with which it ends it reads
 pub returns-in_err-lines-clause-near : goal.returns-in_err-lines-clause-near
 returns-in_err-lines-clause-near g c =
-    first_line_near c.from_residual.result (g.R.LogReader.left c.args.input.now) (g.R.LogReader.left c.behind_first_line.new.reader) (g.W.ReportWriter.taken c.args.report.now) (g.W.ReportWriter.taken c.args.report.now)
+    first_line_near (g.R.LogReader.left c.args.input.now) (g.R.LogReader.left c.behind_first_line.new.reader) (g.W.ReportWriter.taken c.args.report.now) (g.W.ReportWriter.taken c.args.report.now)
     c.behind_first_line.ensures.near
 
 pub returns-in_default-clause-near : goal.returns-in_default-clause-near
 returns-in_default-clause-near g c =
-    first_line_near c.refuse_inputs.result (g.R.LogReader.left c.args.input.now) (g.R.LogReader.left c.behind_first_line.new.reader) (g.W.ReportWriter.taken c.args.report.now) (g.W.ReportWriter.taken c.refuse_inputs.new.report)
+    first_line_near (g.R.LogReader.left c.args.input.now) (g.R.LogReader.left c.behind_first_line.new.reader) (g.W.ReportWriter.taken c.args.report.now) (g.W.ReportWriter.taken c.refuse_inputs.new.report)
     c.behind_first_line.ensures.near
 
 pub returns-in-Err-Refused-clause-near : goal.returns-in-Err-Refused-clause-near
 returns-in-Err-Refused-clause-near g c =
-    first_line_near c.refuse_inputs-in-Err-Refused.result (g.R.LogReader.left c.args.input.now) (g.R.LogReader.left c.behind_first_line.new.reader) (g.W.ReportWriter.taken c.args.report.now) (g.W.ReportWriter.taken c.refuse_inputs-in-Err-Refused.new.report)
+    first_line_near (g.R.LogReader.left c.args.input.now) (g.R.LogReader.left c.behind_first_line.new.reader) (g.W.ReportWriter.taken c.args.report.now) (g.W.ReportWriter.taken c.refuse_inputs-in-Err-Refused.new.report)
     c.behind_first_line.ensures.near
 
 pub returns-clause-near : goal.returns-clause-near
 returns-clause-near g c =
-    first_line_near (Err fault.Memory) (g.R.LogReader.left c.args.input.now) (g.R.LogReader.left c.behind_first_line.new.reader) (g.W.ReportWriter.taken c.args.report.now) (g.W.ReportWriter.taken c.args.report.now)
+    first_line_near (g.R.LogReader.left c.args.input.now) (g.R.LogReader.left c.behind_first_line.new.reader) (g.W.ReportWriter.taken c.args.report.now) (g.W.ReportWriter.taken c.args.report.now)
     c.behind_first_line.ensures.near
 
 pub returns-in-Ok-clause-near : goal.returns-in-Ok-clause-near
@@ -149,5 +148,5 @@ returns-in-Ok-clause-near g c =
     let fresh = subst (λ (o : Option Cursor). IfSome o (λ it. it.handed ≡ 0)) c.in-Some.is c.in_ok-lines.ensures.fresh in
     let few = subst (λ (o : Option Cursor). IfSome o (λ it. length it.waiting < READ_LIMIT)) c.in-Some.is c.in_ok-lines.ensures.few in
     let read : read_inputs lines.line ≡ Ok inputs = ap read_inputs (sym c.line.ensures) ∙ c.in-Ok.ensures.exact in
-    stream_near c.judge_by_table.result inputs known rest (g.R.LogReader.left c.judge_by_table.new.log) (g.W.ReportWriter.taken c.args.report.now) (g.W.ReportWriter.taken c.judge_by_table.new.report) lines
+    stream_near inputs known rest (g.R.LogReader.left c.judge_by_table.new.log) (g.W.ReportWriter.taken c.args.report.now) (g.W.ReportWriter.taken c.judge_by_table.new.report) lines
     parts fresh read c.behind_first_line.ensures.near few c.judge_by_table.ensures.near

@@ -8,11 +8,10 @@ use Rattle.test_runner_core_reporter.specs.Keeping.{IsKeptOf}
 use Rattle.test_runner_core_reporter.proofs.KeptReports.{kept_begin, kept_reasons}
 use Rattle.test_runner_core_reporter.specs.Opening.{opening}
 use Rattle.test_runner_core.specs.Inside.{JudgesLine, KeepsJudged}
-use Rattle.test_runner_core.specs.Near.{LooksNear}
 use Rattle.test_runner_core.specs.declared.refused_line.LineRefusal.{LineRefusal}
 use Rattle.test_runner_core.specs.declared.refused_line.RefusedLine.{RefusedLine}
 use Rattle.test_runner_core.proofs.Course.{reached, so_far_none}
-use Rattle.test_runner_core.proofs.Near.{end_decides, fault_decides, line_decides, line_fails, line_read, line_writes, next_fails, read_on}
+use Rattle.test_runner_core.proofs.Near.{ends_near, line_writes, next_near, read_on}
 use Rattle.test_runner_core.proofs.Walk.{judges_line_fails, judges_next_fails, line_accepted, line_failed, line_refused, log_faulty, log_over, nothing_ahead, opening_failed, told_from_nothing}
 use Rattle.test_runner_core.proofs.judging.judge_lines.Goals as goal
 
@@ -129,9 +128,6 @@ loop-fault-preserved g c =
     (taken c.judge_line.new.report) (string_bytes c.judge_line.new.text)) c.line.ensures
     (subst (λ (r : Option LineRefusal). JudgesLine (Ok r) c.loop-fault.session c.line.result.now c.judge_line.new.session (taken c.next_line.new.report) (string_bytes c.next_line.new.text)
     (taken c.judge_line.new.report) (string_bytes c.judge_line.new.text)) c.in_default.is c.in_ok-refusal.ensures.judged) in
-    let looks =
-    subst (λ (n : Next). LooksNear (Ok n) c.loop-fault.lines (left c.loop-fault.log) c.next_line.new.lines (left c.next_line.new.log) (taken c.loop-fault.report) (string_bytes c.loop-fault.text)
-    (taken c.next_line.new.report) (string_bytes c.next_line.new.text)) c.in-Line.is c.in_ok-next_line.ensures.near in
     let reads = c.in_ok-next_line.ensures.reads.0 in
     let limit = c.in_ok-next_line.ensures.reads.1 in
     let before = c.loop-fault.invariant in
@@ -147,9 +143,9 @@ loop-fault-preserved g c =
           line_writes (Ok None) c.loop-fault.session c.judge_line.new.session c.next_line.new.lines.line (taken c.next_line.new.report) (taken c.judge_line.new.report) (string_bytes c.next_line.new.text)
           (string_bytes c.judge_line.new.text) judged in
           read_on c.args.session.now.plan c.args.lines.now (left c.args.log.now) (taken c.args.report.now) (left c.next_line.new.log) (taken c.next_line.new.report) (taken c.judge_line.new.report) wrote.0 wrote.1
-          (line_read c.args.session.now.plan c.args.lines.now (left c.args.log.now) (taken c.args.report.now) c.loop-fault.session c.loop-fault.lines c.next_line.new.lines (left c.loop-fault.log) (left c.next_line.new.log)
-          (taken c.loop-fault.report) (taken c.next_line.new.report) (string_bytes c.loop-fault.text) (string_bytes c.next_line.new.text) c.loop-fault.number
-          before.here hands ahead c.in_ok-next_line.ensures.items.3 looks before.near);
+          (next_near (Ok c.in_ok-next_line.field-0) c.args.session.now.plan c.args.lines.now (left c.args.log.now) (taken c.args.report.now) c.loop-fault.session c.loop-fault.lines c.next_line.new.lines (left c.loop-fault.log)
+          (left c.next_line.new.log) (taken c.loop-fault.report) (taken c.next_line.new.report) (string_bytes c.loop-fault.text) (string_bytes c.next_line.new.text) c.loop-fault.number
+          before.here c.in_ok-next_line.ensures.items c.in_ok-next_line.ensures.near before.near);
       reads = omega arith;
       within = omega arith;
       unfailed = c.in_ok-next_line.ensures.read_failures ∙ before.unfailed;
@@ -157,79 +153,64 @@ loop-fault-preserved g c =
       counted = omega (arith, handed);
     }
 
+-- how near to the line with which it ends it reads
 pub returns-in_err-report_opening-clause-near : goal.returns-in_err-report_opening-clause-near
 returns-in_err-report_opening-clause-near g c =
     let left = g.R.LogReader.left in
     let taken = g.W.ReportWriter.taken in
-    line_fails c.from_residual.result c.in_err-report_opening.field-0.0 c.args.session.now.plan c.args.lines.now (left c.args.log.now) (taken c.args.report.now) (left c.args.log.now) (taken c.report_opening.new.report)
-    c.from_residual.ensures.1 (inl refl)
+    ends_near c.args.session.now.plan c.args.lines.now (left c.args.log.now) (taken c.args.report.now) (left c.args.log.now) (taken c.report_opening.new.report) (inl refl)
 
 pub returns-in_err-next_line-clause-near : goal.returns-in_err-next_line-clause-near
 returns-in_err-next_line-clause-near g c =
     let left = g.R.LogReader.left in
     let taken = g.W.ReportWriter.taken in
-    next_fails c.from_residual-in_err-next_line.result c.in_err-next_line.field-0.0 c.args.session.now.plan c.args.lines.now (left c.args.log.now) (taken c.args.report.now) c.loop-fault.session c.loop-fault.lines c.next_line.new.lines
-    (left c.loop-fault.log) (left c.next_line.new.log) (taken c.loop-fault.report) (taken c.next_line.new.report) (string_bytes c.loop-fault.text) (string_bytes c.next_line.new.text) c.loop-fault.number
-    c.from_residual-in_err-next_line.ensures.1 c.loop-fault.invariant.here c.in_err-next_line.ensures.items c.in_err-next_line.ensures.near c.loop-fault.invariant.near
+    ends_near c.args.session.now.plan c.args.lines.now (left c.args.log.now) (taken c.args.report.now) (left c.next_line.new.log) (taken c.next_line.new.report)
+    (next_near (Err c.in_err-next_line.field-0.0) c.args.session.now.plan c.args.lines.now (left c.args.log.now) (taken c.args.report.now) c.loop-fault.session c.loop-fault.lines c.next_line.new.lines (left c.loop-fault.log) (left c.next_line.new.log)
+    (taken c.loop-fault.report) (taken c.next_line.new.report) (string_bytes c.loop-fault.text) (string_bytes c.next_line.new.text) c.loop-fault.number
+    c.loop-fault.invariant.here c.in_err-next_line.ensures.items c.in_err-next_line.ensures.near c.loop-fault.invariant.near)
 
 pub returns-in-Refused-clause-near : goal.returns-in-Refused-clause-near
-returns-in-Refused-clause-near g c = λ few.
+returns-in-Refused-clause-near g c =
     let left = g.R.LogReader.left in
     let taken = g.W.ReportWriter.taken in
-    let hands = subst (λ (n : Next). Hands c.loop-fault.lines (left c.loop-fault.log) c.next_line.new.lines (left c.next_line.new.log) (Ok n)) c.in-Refused.is c.in_ok-next_line.ensures.items.0 in
-    let ahead = subst (λ (n : Next). HandsAhead c.loop-fault.lines (left c.loop-fault.log) c.next_line.new.lines (left c.next_line.new.log) (Ok n)) c.in-Refused.is c.in_ok-next_line.ensures.items.1 in
-    let looks =
-    subst (λ (n : Next). LooksNear (Ok n) c.loop-fault.lines (left c.loop-fault.log) c.next_line.new.lines (left c.next_line.new.log) (taken c.loop-fault.report) (string_bytes c.loop-fault.text)
-    (taken c.next_line.new.report) (string_bytes c.next_line.new.text)) c.in-Refused.is c.in_ok-next_line.ensures.near in
-    fault_decides c.args.session.now.plan c.args.lines.now (left c.args.log.now) (taken c.args.report.now) c.loop-fault.session c.loop-fault.lines c.next_line.new.lines (left c.loop-fault.log) (left c.next_line.new.log)
-    (taken c.loop-fault.report) (string_bytes c.loop-fault.text) c.loop-fault.number c.in-Refused.fault c.loop-fault.invariant.here hands ahead looks
+    ends_near c.args.session.now.plan c.args.lines.now (left c.args.log.now) (taken c.args.report.now) (left c.next_line.new.log) (taken c.next_line.new.report)
+    (next_near (Ok c.in_ok-next_line.field-0) c.args.session.now.plan c.args.lines.now (left c.args.log.now) (taken c.args.report.now) c.loop-fault.session c.loop-fault.lines c.next_line.new.lines (left c.loop-fault.log) (left c.next_line.new.log)
+    (taken c.loop-fault.report) (taken c.next_line.new.report) (string_bytes c.loop-fault.text) (string_bytes c.next_line.new.text) c.loop-fault.number
+    c.loop-fault.invariant.here c.in_ok-next_line.ensures.items c.in_ok-next_line.ensures.near c.loop-fault.invariant.near)
 
 pub returns-in-End-clause-near : goal.returns-in-End-clause-near
-returns-in-End-clause-near g c = λ few.
+returns-in-End-clause-near g c =
     let left = g.R.LogReader.left in
     let taken = g.W.ReportWriter.taken in
-    let hands = subst (λ (n : Next). Hands c.loop-fault.lines (left c.loop-fault.log) c.next_line.new.lines (left c.next_line.new.log) (Ok n)) c.in-End.is c.in_ok-next_line.ensures.items.0 in
-    let ahead = subst (λ (n : Next). HandsAhead c.loop-fault.lines (left c.loop-fault.log) c.next_line.new.lines (left c.next_line.new.log) (Ok n)) c.in-End.is c.in_ok-next_line.ensures.items.1 in
-    let looks =
-    subst (λ (n : Next). LooksNear (Ok n) c.loop-fault.lines (left c.loop-fault.log) c.next_line.new.lines (left c.next_line.new.log) (taken c.loop-fault.report) (string_bytes c.loop-fault.text)
-    (taken c.next_line.new.report) (string_bytes c.next_line.new.text)) c.in-End.is c.in_ok-next_line.ensures.near in
-    end_decides c.args.session.now.plan c.args.lines.now (left c.args.log.now) (taken c.args.report.now) c.loop-fault.session c.loop-fault.lines c.next_line.new.lines (left c.loop-fault.log) (left c.next_line.new.log)
-    (taken c.loop-fault.report) (string_bytes c.loop-fault.text) c.loop-fault.number c.loop-fault.invariant.here hands ahead looks
+    ends_near c.args.session.now.plan c.args.lines.now (left c.args.log.now) (taken c.args.report.now) (left c.next_line.new.log) (taken c.next_line.new.report)
+    (next_near (Ok c.in_ok-next_line.field-0) c.args.session.now.plan c.args.lines.now (left c.args.log.now) (taken c.args.report.now) c.loop-fault.session c.loop-fault.lines c.next_line.new.lines (left c.loop-fault.log) (left c.next_line.new.log)
+    (taken c.loop-fault.report) (taken c.next_line.new.report) (string_bytes c.loop-fault.text) (string_bytes c.next_line.new.text) c.loop-fault.number
+    c.loop-fault.invariant.here c.in_ok-next_line.ensures.items c.in_ok-next_line.ensures.near c.loop-fault.invariant.near)
 
 pub returns-in_err-refusal-clause-near : goal.returns-in_err-refusal-clause-near
 returns-in_err-refusal-clause-near g c =
     let left = g.R.LogReader.left in
     let taken = g.W.ReportWriter.taken in
-    let hands = subst (λ (n : Next). Hands c.loop-fault.lines (left c.loop-fault.log) c.next_line.new.lines (left c.next_line.new.log) (Ok n)) c.in-Line.is c.in_ok-next_line.ensures.items.0 in
-    let ahead = subst (λ (n : Next). HandsAhead c.loop-fault.lines (left c.loop-fault.log) c.next_line.new.lines (left c.next_line.new.log) (Ok n)) c.in-Line.is c.in_ok-next_line.ensures.items.1 in
-    let looks =
-    subst (λ (n : Next). LooksNear (Ok n) c.loop-fault.lines (left c.loop-fault.log) c.next_line.new.lines (left c.next_line.new.log) (taken c.loop-fault.report) (string_bytes c.loop-fault.text)
-    (taken c.next_line.new.report) (string_bytes c.next_line.new.text)) c.in-Line.is c.in_ok-next_line.ensures.near in
-    let judged =
-    subst (λ (bytes : List ℕ). JudgesLine (Err c.in_err-refusal.field-0.0) c.loop-fault.session bytes c.judge_line.new.session (taken c.next_line.new.report) (string_bytes c.next_line.new.text)
-    (taken c.judge_line.new.report) (string_bytes c.judge_line.new.text)) c.line.ensures c.in_err-refusal.ensures.judged in
     let wrote =
-    line_writes (Err c.in_err-refusal.field-0.0) c.loop-fault.session c.judge_line.new.session c.next_line.new.lines.line (taken c.next_line.new.report) (taken c.judge_line.new.report) (string_bytes c.next_line.new.text)
-    (string_bytes c.judge_line.new.text) judged in
-    line_fails c.from_residual-in_err-refusal.result c.in_err-refusal.field-0.0 c.args.session.now.plan c.args.lines.now (left c.args.log.now) (taken c.args.report.now) (left c.next_line.new.log) (taken c.judge_line.new.report)
-    c.from_residual-in_err-refusal.ensures.1
-    (read_on c.args.session.now.plan c.args.lines.now (left c.args.log.now) (taken c.args.report.now) (left c.next_line.new.log) (taken c.next_line.new.report) (taken c.judge_line.new.report) wrote.0 wrote.1
-    (line_read c.args.session.now.plan c.args.lines.now (left c.args.log.now) (taken c.args.report.now) c.loop-fault.session c.loop-fault.lines c.next_line.new.lines (left c.loop-fault.log) (left c.next_line.new.log)
+    line_writes (Err c.in_err-refusal.field-0.0) c.loop-fault.session c.judge_line.new.session c.line.result.now (taken c.next_line.new.report) (taken c.judge_line.new.report) (string_bytes c.next_line.new.text)
+    (string_bytes c.judge_line.new.text) c.in_err-refusal.ensures.judged in
+    let read =
+    next_near (Ok c.in_ok-next_line.field-0) c.args.session.now.plan c.args.lines.now (left c.args.log.now) (taken c.args.report.now) c.loop-fault.session c.loop-fault.lines c.next_line.new.lines (left c.loop-fault.log) (left c.next_line.new.log)
     (taken c.loop-fault.report) (taken c.next_line.new.report) (string_bytes c.loop-fault.text) (string_bytes c.next_line.new.text) c.loop-fault.number
-    c.loop-fault.invariant.here hands ahead c.in_ok-next_line.ensures.items.3 looks c.loop-fault.invariant.near))
+    c.loop-fault.invariant.here c.in_ok-next_line.ensures.items c.in_ok-next_line.ensures.near c.loop-fault.invariant.near in
+    ends_near c.args.session.now.plan c.args.lines.now (left c.args.log.now) (taken c.args.report.now) (left c.next_line.new.log) (taken c.judge_line.new.report)
+    (read_on c.args.session.now.plan c.args.lines.now (left c.args.log.now) (taken c.args.report.now) (left c.next_line.new.log) (taken c.next_line.new.report) (taken c.judge_line.new.report) wrote.0 wrote.1 read)
 
 pub returns-in-Some-clause-near : goal.returns-in-Some-clause-near
-returns-in-Some-clause-near g c = λ few.
+returns-in-Some-clause-near g c =
     let left = g.R.LogReader.left in
     let taken = g.W.ReportWriter.taken in
-    let hands = subst (λ (n : Next). Hands c.loop-fault.lines (left c.loop-fault.log) c.next_line.new.lines (left c.next_line.new.log) (Ok n)) c.in-Line.is c.in_ok-next_line.ensures.items.0 in
-    let ahead = subst (λ (n : Next). HandsAhead c.loop-fault.lines (left c.loop-fault.log) c.next_line.new.lines (left c.next_line.new.log) (Ok n)) c.in-Line.is c.in_ok-next_line.ensures.items.1 in
-    let looks =
-    subst (λ (n : Next). LooksNear (Ok n) c.loop-fault.lines (left c.loop-fault.log) c.next_line.new.lines (left c.next_line.new.log) (taken c.loop-fault.report) (string_bytes c.loop-fault.text)
-    (taken c.next_line.new.report) (string_bytes c.next_line.new.text)) c.in-Line.is c.in_ok-next_line.ensures.near in
-    let judged =
-    subst (λ (bytes : List ℕ). JudgesLine (Ok (Some c.in-Some.refusal)) c.loop-fault.session bytes c.judge_line.new.session (taken c.next_line.new.report) (string_bytes c.next_line.new.text)
-    (taken c.judge_line.new.report) (string_bytes c.judge_line.new.text)) c.line.ensures (rw c.in-Some.is at c.in_ok-refusal.ensures.judged) in
-    line_decides c.args.session.now.plan c.args.lines.now (left c.args.log.now) (taken c.args.report.now) c.loop-fault.session c.judge_line.new.session c.loop-fault.lines c.next_line.new.lines (left c.loop-fault.log) (left c.next_line.new.log)
-    (taken c.loop-fault.report) (taken c.next_line.new.report) (taken c.judge_line.new.report) (string_bytes c.loop-fault.text) (string_bytes c.next_line.new.text) (string_bytes c.judge_line.new.text) c.loop-fault.number c.in-Some.refusal
-    c.loop-fault.invariant.here hands ahead looks.0 judged
+    let wrote =
+    line_writes (Ok c.in_ok-refusal.field-0) c.loop-fault.session c.judge_line.new.session c.line.result.now (taken c.next_line.new.report) (taken c.judge_line.new.report) (string_bytes c.next_line.new.text)
+    (string_bytes c.judge_line.new.text) c.in_ok-refusal.ensures.judged in
+    let read =
+    next_near (Ok c.in_ok-next_line.field-0) c.args.session.now.plan c.args.lines.now (left c.args.log.now) (taken c.args.report.now) c.loop-fault.session c.loop-fault.lines c.next_line.new.lines (left c.loop-fault.log) (left c.next_line.new.log)
+    (taken c.loop-fault.report) (taken c.next_line.new.report) (string_bytes c.loop-fault.text) (string_bytes c.next_line.new.text) c.loop-fault.number
+    c.loop-fault.invariant.here c.in_ok-next_line.ensures.items c.in_ok-next_line.ensures.near c.loop-fault.invariant.near in
+    ends_near c.args.session.now.plan c.args.lines.now (left c.args.log.now) (taken c.args.report.now) (left c.next_line.new.log) (taken c.judge_line.new.report)
+    (read_on c.args.session.now.plan c.args.lines.now (left c.args.log.now) (taken c.args.report.now) (left c.next_line.new.log) (taken c.next_line.new.report) (taken c.judge_line.new.report) wrote.0 wrote.1 read)

@@ -1,4 +1,4 @@
-use Rattle.std.proofs.Common.{◌≡◌, Option, Ok, Err, string_bytes, sym, ap, ◌∙◌, subst}
+use Rattle.std.proofs.Common.{◌≡◌, Err, string_bytes, refl, sym, ap, ◌∙◌, subst, inl}
 use Rattle.std.proofs.lemmas.Result.{err_from_is_err_and}
 use Rattle.test_runner_core_plan.specs.declared.plan.Plan.{Plan}
 use Rattle.test_runner_core_session.specs.Session.{SessionState}
@@ -6,9 +6,8 @@ use Rattle.test_runner_core_reporter.specs.Writes.{WritesAll, WritesPrefix}
 use Rattle.test_runner_core.specs.Inside.{JudgesLines, KeepsJudged}
 use Rattle.test_runner_core.specs.Near.{LinesNear}
 use Rattle.test_runner_core.specs.Report.{IsStatus, ending}
-use Rattle.test_runner_core.specs.declared.refused_line.RefusedLine.{RefusedLine}
 use Rattle.test_runner_core.proofs.Kept.{ended_as, exit_as, unended_as}
-use Rattle.test_runner_core.proofs.NearCalls.{unbegun, unended, unjudged}
+use Rattle.test_runner_core.proofs.Near.{ends_near, ends_on}
 use Rattle.test_runner_core.proofs.Statuses.{of_report}
 use Rattle.test_runner_core.proofs.Whole.{reports_none, reports_unended, reports_unjudged, reports_whole}
 use Rattle.test_runner_core.proofs.whole_report.judge_plan.Goals as goal
@@ -73,43 +72,34 @@ returns-clause-reports g c =
 pub returns-clause-status : goal.returns-clause-status
 returns-clause-status g c = subst IsStatus (sym c.in_ok-end_report.ensures.code) (of_report c.judge_lines.new.session.run c.in_ok-found.found)
 
+-- how near to the line with which it ends it reads
 pub returns-in_err-session-clause-near : goal.returns-in_err-session-clause-near
 returns-in_err-session-clause-near g c =
-    let p = err_from_is_err_and c.from_residual.result c.from_residual.ensures.1 in
-    rw (p.1, p.2) (unbegun c.args.plan.now c.args.lines.now (g.R.LogReader.left c.args.log.now) (g.W.ReportWriter.taken c.args.report.now))
+    let known = g.R.LogReader.left c.args.log.now in
+    let taken = g.W.ReportWriter.taken c.args.report.now in
+    ends_near c.args.plan.now c.args.lines.now known taken known taken (inl refl)
 
 pub returns-in_err-found-clause-near : goal.returns-in_err-found-clause-near
 returns-in_err-found-clause-near g c =
     let left = g.R.LogReader.left in
     let taken = g.W.ReportWriter.taken in
     let plan : c.in_ok-session.session.plan ≡ c.args.plan.now = ap (λ (s : SessionState). s.plan) c.in_ok-session.ensures in
-    let fault = c.in_err-found.field-0.0 in
-    let near =
-    subst (λ (p : Plan). LinesNear {A = Option RefusedLine} (Err fault) p c.args.lines.now (left c.args.log.now) (left c.judge_lines.new.log) (taken c.args.report.now) (taken c.judge_lines.new.report))
-    plan c.in_err-found.ensures.near in
-    let p = err_from_is_err_and c.from_residual-in_err-found.result c.from_residual-in_err-found.ensures.1 in
-    rw (p.1, p.2) (unjudged fault c.args.plan.now c.args.lines.now (left c.args.log.now) (left c.judge_lines.new.log) (taken c.args.report.now) (taken c.judge_lines.new.report) near)
+    subst (λ (p : Plan). LinesNear p c.args.lines.now (left c.args.log.now) (left c.judge_lines.new.log) (taken c.args.report.now) (taken c.judge_lines.new.report)) plan c.judge_lines.ensures.near
 
 pub returns-in_err-end_report-clause-near : goal.returns-in_err-end_report-clause-near
 returns-in_err-end_report-clause-near g c =
     let left = g.R.LogReader.left in
     let taken = g.W.ReportWriter.taken in
     let plan : c.in_ok-session.session.plan ≡ c.args.plan.now = ap (λ (s : SessionState). s.plan) c.in_ok-session.ensures in
-    let found = c.in_ok-found.found in
-    let near =
-    subst (λ (p : Plan). LinesNear (Ok found) p c.args.lines.now (left c.args.log.now) (left c.judge_lines.new.log) (taken c.args.report.now) (taken c.judge_lines.new.report))
-    plan c.in_ok-found.ensures.near in
-    let p = err_from_is_err_and c.from_residual-in_err-end_report.result c.from_residual-in_err-end_report.ensures.1 in
-    rw (p.1, p.2) (unended c.in_err-end_report.field-0.0 found c.args.plan.now c.args.lines.now (left c.args.log.now) (left c.judge_lines.new.log) (taken c.args.report.now) (taken c.judge_lines.new.report)
-    (taken c.end_report.new.report) near)
+    let moved = c.in_err-end_report.ensures.writes.moved in
+    ends_on c.args.plan.now c.args.lines.now (left c.args.log.now) (left c.judge_lines.new.log) (taken c.args.report.now) (taken c.judge_lines.new.report) (taken c.end_report.new.report) moved.written moved.taken
+    (subst (λ (p : Plan). LinesNear p c.args.lines.now (left c.args.log.now) (left c.judge_lines.new.log) (taken c.args.report.now) (taken c.judge_lines.new.report)) plan c.judge_lines.ensures.near)
 
 pub returns-clause-near : goal.returns-clause-near
 returns-clause-near g c =
     let left = g.R.LogReader.left in
     let taken = g.W.ReportWriter.taken in
     let plan : c.in_ok-session.session.plan ≡ c.args.plan.now = ap (λ (s : SessionState). s.plan) c.in_ok-session.ensures in
-    let found = c.in_ok-found.found in
-    let near =
-    subst (λ (p : Plan). LinesNear (Ok found) p c.args.lines.now (left c.args.log.now) (left c.judge_lines.new.log) (taken c.args.report.now) (taken c.judge_lines.new.report))
-    plan c.in_ok-found.ensures.near in
-    λ few. near few
+    let moved = c.in_ok-end_report.ensures.writes.moved in
+    ends_on c.args.plan.now c.args.lines.now (left c.args.log.now) (left c.judge_lines.new.log) (taken c.args.report.now) (taken c.judge_lines.new.report) (taken c.end_report.new.report) moved.written moved.taken
+    (subst (λ (p : Plan). LinesNear p c.args.lines.now (left c.args.log.now) (left c.judge_lines.new.log) (taken c.args.report.now) (taken c.judge_lines.new.report)) plan c.judge_lines.ensures.near)
