@@ -1,0 +1,10 @@
+mod Gathered
+mod Rising
+mod Depths
+mod Ends
+mod Leaves
+mod Merged
+mod Parting
+mod Keyed
+mod Rebuilt
+mod AtPath

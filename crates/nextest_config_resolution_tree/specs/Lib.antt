@@ -1,0 +1,5 @@
+pub mod Ends
+pub mod Gathered
+pub mod Runs
+pub mod RunOf
+pub mod Laws
