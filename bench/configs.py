@@ -1,12 +1,13 @@
 #!/usr/bin/env python3
-"""Times the load of three files of 200 profiles each, some 430 kB a file, beside the reading of the same bytes by `toml` alone.
+"""Times the load of files beside the reading of the same bytes by `toml` alone: three files of 200 profiles each, some 430 kB a file;
+and 4,000 files of one key each (a group; a key of a profile that nothing knows) beside one file with as many.
 
     python3 bench/configs.py
 
 It copies the repository with what is built in it, adds the program below, proves and builds it (some minutes, where the libraries
 are built), and prints processor seconds, the least of 21 runs of each in turns, with the system's share and the page faults of that run.
-Each run has the three texts in memory first, as a load needs them; `read` drops the table of each before it reads the next one, `kept`
-has all three at the end. The program has no place in the repository: the gate would prove it again.
+Each run has the texts in memory first, as a load needs them; `read` drops the table of each before it reads the next one, `kept`
+has all of them at the end. The program has no place in the repository: the gate would prove it again.
 """
 import os
 import pathlib
@@ -21,7 +22,7 @@ LINE = (
     " nextest_config_elements_versions nextest_config_elements_identifiers nextest_filtering_compiling nextest_filtering_graph"
     " test_runner_core_platforms nextest_text toml anyhow\n"
 )
-PROGRAM = """//! Reads three files as TOML, or loads them one over the other.
+PROGRAM = """//! Reads files as TOML, or loads them one over the other.
 #![tactic(auto)]
 
 use anyhow::Result;
@@ -78,8 +79,9 @@ fn sources_of(alloc: Global, texts: Vec<String>) -> Result<Vec<ConfigSource>> {
 fn main(rt: HostRuntime) -> Result<ExitCode> {
     let alloc = rt.alloc();
     let mode = fs::read_to_string(&rt, "mode.txt")?;
+    let names = fs::read_to_string(&rt, "names.txt")?;
     let mut texts: Vec<String> = Vec::new(alloc);
-    for name in ["a.toml", "b.toml", "c.toml"] {
+    for name in names.as_str().lines() {
         texts.push(fs::read_to_string(&rt, name)?)?;
     }
     if mode.as_str() == "load" {
@@ -117,6 +119,31 @@ def file():
     return "".join(text)
 
 
+GROUPS = [f"[test-groups.'@tool:t:g{place}']\nmax-threads = 1\n" for place in range(4000)]
+UNKNOWN = [f"key-{place} = 1\n" for place in range(4000)]
+PROFILE = "[profile.default]\n"
+
+
+def kinds():
+    """The texts of each kind of files, the first the highest."""
+    return {
+        "three files": [file() for _ in range(3)],
+        "4,000 files of a group": GROUPS,
+        "a file of 4,000 groups": ["".join(GROUPS)],
+        "4,000 files of a key": [PROFILE + key for key in UNKNOWN],
+        "a file of 4,000 keys": [PROFILE + "".join(UNKNOWN)],
+    }
+
+
+def put(folder, texts):
+    """Writes texts into files of a folder, and their names into another."""
+    folder.mkdir(parents=True)
+    for place, text in enumerate(texts):
+        (folder / f"{place}.toml").write_text(text)
+    (folder / "names.txt").write_text("".join(f"{place}.toml\n" for place in range(len(texts))))
+    (folder / "mode.txt").write_text("read")
+
+
 def run(program, folder, mode):
     """The processor seconds of a run, the system's among them, and its page faults."""
     (folder / "mode.txt").write_text(mode)
@@ -138,21 +165,19 @@ def main():
         (source / "main.rt").write_text(PROGRAM)
         with open(copy / "crates.txt", "a") as lines:
             lines.write(LINE)
-        data = source.parent / "data"
-        data.mkdir()
-        for name in "abc":
-            (data / f"{name}.toml").write_text(file())
-        (data / "mode.txt").write_text("read")
+        put(source.parent / "data", [""])
         subprocess.run(["rt", "run"], cwd=source.parent, stdin=subprocess.DEVNULL, stdout=subprocess.DEVNULL, stderr=subprocess.DEVNULL)
-        size = sum((data / f"{name}.toml").stat().st_size for name in "abc")
-        runs = {mode: [] for mode in ("read", "kept", "load")}
-        for _ in range(21):
+        for place, (name, texts) in enumerate(kinds().items()):
+            folder = pathlib.Path(kept) / str(place)
+            put(folder, texts)
+            print(f"{name}: {sum(map(len, texts))} bytes")
+            runs = {mode: [] for mode in ("read", "kept", "load")}
+            for _ in range(21):
+                for mode in runs:
+                    runs[mode].append(run(source.parent / "out/time_load", folder, mode))
             for mode in runs:
-                runs[mode].append(run(source.parent / "out/time_load", data, mode))
-        print(f"{size} bytes")
-        for mode in runs:
-            whole, system, faults = min(runs[mode])
-            print(f"{mode}: {whole:.3f} s ({system:.3f} the system's, {faults} page faults), {whole / min(runs['read'])[0]:.2f} times read")
+                whole, system, faults = min(runs[mode])
+                print(f"  {mode}: {whole:.4f} s ({system:.4f} the system's, {faults} page faults), {whole / min(runs['read'])[0]:.2f} times read")
 
 
 if __name__ == "__main__":

@@ -891,7 +891,7 @@ def merge_rows():
         yield files(*texts, keys="retries")
     slow = [
         "profile.default.slow-timeout = '5s'",
-        "profile.default.slow-timeout = { period = '6s', terminate-after = 2 }",
+        "profile.default.slow-timeout = { period = '1s', terminate-after = 2 }",
         "profile.default.slow-timeout = { period = '7s', grace-period = '1s', on-timeout = 'pass' }",
         "profile.default.slow-timeout = { period = '8s' }",
     ]

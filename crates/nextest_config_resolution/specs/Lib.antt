@@ -31,9 +31,13 @@ pub use Rattle.nextest_config_resolution_profiles.specs.Laws as ProfileLaws
 pub use Rattle.nextest_config_resolution_profiles.specs.Selection
 pub use Rattle.nextest_config_resolution_profiles.specs.Whole as WholeConfig
 -- the merged tree
-pub use Rattle.nextest_config_resolution_merge.specs.Laws as TreeLaws
-pub use Rattle.nextest_config_resolution_merge.specs.Merged
-pub use Rattle.nextest_config_resolution_merge.specs.Tree
+pub use Rattle.nextest_config_resolution_tree.specs.Ends
+pub use Rattle.nextest_config_resolution_tree.specs.Gathered as MergedTables
+pub use Rattle.nextest_config_resolution_tree.specs.Laws as TreeLaws
+pub use Rattle.nextest_config_resolution_tree.specs.Merged
+pub use Rattle.nextest_config_resolution_tree.specs.RunOf
+pub use Rattle.nextest_config_resolution_tree.specs.Runs
+pub use Rattle.nextest_config_resolution_tree.specs.Tree
 -- what files and profiles say, and how profiles inherit
 pub use Rattle.nextest_config_resolution_values.specs.Accepted as AcceptedProfiles
 pub use Rattle.nextest_config_resolution_values.specs.File

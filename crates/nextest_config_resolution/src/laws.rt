@@ -7,7 +7,6 @@ pub use nextest_config_resolution_inheritance::laws::{
 pub use nextest_config_resolution_load::laws::{
     merged_files, one_load, scripts_are_defined, some_load,
 };
-pub use nextest_config_resolution_merge::laws::{merged_by_over, one_standing};
 pub use nextest_config_resolution_overrides::laws::accepted_override;
 pub use nextest_config_resolution_profiles::laws::{
     accepted as built_in_is_accepted, default_is_read, early_default, group_of_settings,
@@ -22,5 +21,6 @@ pub use nextest_config_resolution_scripts::laws::{
 pub use nextest_config_resolution_settings::laws::{
     held_rules, least_rule, one_least, one_setting, same_settings,
 };
+pub use nextest_config_resolution_tree::laws::{merged_by_over, one_standing, read_at_path};
 pub use nextest_config_resolution_values::laws::accepted_profile;
 pub use nextest_config_resolution_warnings::laws::unknown_is_found;

@@ -4,7 +4,6 @@ pub mod Defining
 pub mod Downward
 pub mod FilesRead
 pub mod Kept
-pub mod Knowing
 pub mod Loads
 pub mod NameChecks
 pub mod Passing
@@ -12,5 +11,5 @@ pub mod ProfileReading
 pub mod Profiles
 pub mod SomeLoad
 pub mod Sources
-pub mod Taken
 pub mod Tops
+pub mod Upward

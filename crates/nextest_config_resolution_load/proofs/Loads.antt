@@ -4,8 +4,8 @@ use Rattle.std.specs.Prelude.{reverse}
 use Rattle.std.proofs.lemmas.List.{reverse-append}
 use Rattle.toml.specs.Data.{Data, table, Members}
 use Rattle.nextest_config_elements_toml.specs.Reading.{Reading}
-use Rattle.nextest_config_resolution_merge.proofs.Standings.{merged_by_over}
-use Rattle.nextest_config_resolution_merge.specs.Merged.{IsMerged, merge_of_files}
+use Rattle.nextest_config_resolution_tree.proofs.Standings.{merged_by_over}
+use Rattle.nextest_config_resolution_tree.specs.Merged.{IsMerged, merge_of_files}
 use Rattle.nextest_config_resolution_load.specs.Checks.{MergedConfig, checks_of, tree_of_files}
 use Rattle.nextest_config_resolution_load.specs.Laws.{MergedFiles, NoFault, OneLoad, OneReason}
 use Rattle.nextest_config_resolution_load.specs.Load.{IsFilterBy, IsSpecBy, reason_of, merged_of}

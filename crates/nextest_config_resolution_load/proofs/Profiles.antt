@@ -1,5 +1,5 @@
 -- The profiles of a merged tree, one after another.
-use Rattle.std.proofs.Common.{◌≡◌, ℕ, List, [], ◌∷◌, ◌++◌, map, codes, Some, Ok, Err, refl, sym, ap, ◌∙◌, subst, append_assoc, nat_cmp, Less, String, Global, string_bytes}
+use Rattle.std.proofs.Common.{◌≡◌, ℕ, List, [], ◌∷◌, ◌++◌, map, codes, Ok, Err, refl, sym, ap, ◌∙◌, subst, append_assoc, nat_cmp, Less, String, Global, string_bytes}
 use Rattle.std.proofs.lemmas.Bool.{false≢true, true≢false}
 use Rattle.std.proofs.lemmas.List.{map_push}
 use Rattle.std.specs.Cmp.Lexicographic.{slice_cmp}
@@ -10,24 +10,17 @@ use Rattle.std.specs.Map.{keys_of}
 use Rattle.std.specs.String.{string_cmp}
 use Rattle.toml.specs.View.{members_view, view}
 use Rattle.toml.specs.declared.value.Value.{Value}
-use Rattle.toml.specs.Data.{Data, Members, no_members, member, get_member}
+use Rattle.toml.specs.Data.{Data, Members, no_members, member}
 use Rattle.nextest_config_elements_toml.specs.Reading.{Path, Reading, under}
 use Rattle.nextest_config_elements_toml.specs.declared.value_error.ValueError.{ValueError}
 use Rattle.nextest_config_elements_toml.specs.declared.value_error.ValueError.TheVariants as value_error
-use Rattle.nextest_config_resolution_load.specs.Known.{AreKnown}
 use Rattle.nextest_config_resolution_load.specs.Load.{named_of}
 use Rattle.nextest_config_resolution_load.specs.Reading.{GivesSeen, profile_at}
 use Rattle.nextest_config_resolution_load.specs.declared.loaded_config.NamedProfile.{NamedProfile}
-use Rattle.nextest_config_resolution_merge.specs.Tree.{keys}
-use Rattle.nextest_config_resolution_merge.proofs.Keys.{get_set, same_key}
-use Rattle.nextest_config_resolution_merge.proofs.Tables.{set_between}
+use Rattle.nextest_config_resolution_tree.specs.Tree.{keys}
 use Rattle.nextest_config_resolution_values.specs.File.{Named, profiles_in}
 use Rattle.nextest_config_resolution_values.specs.Profile.{profile_of}
 use Rattle.nextest_config_resolution_values.specs.declared.profile_config.ProfileConfig.{ProfileConfig}
-
--- what stands at keys of a table
-abbrev pub Entry : Type 0
-Entry = String Global × Value
 
 -- profiles behind others
 abbrev pub after : List Named → Reading (List Named) → Reading (List Named)
@@ -92,56 +85,15 @@ pub read_more : (done : List Named) (name : List ℕ) (given : Data) (more : Mem
     → after done (profiles_in (member name given more)) ≡ after (done ++ it ∷ []) (profiles_in more)
 read_more done name given more it e = ap (after done) (joined_is name given more) ∙ one_more done name given (profiles_in more) it e
 
--- those that a loop has found, of all and with those that are left; what is known stays so
-pub record ReadForward (all left : List Entry) (former known found : List NamedProfile) : Type 0 where
-  pub front : List Entry
-  pub whole : all ≡ front ++ left
-  pub knows : AreKnown (members_view all) former → AreKnown (members_view all) known
-  pub gives : AreKnown (members_view all) former → profiles_in (members_view all) ≡ after (map named_of found) (profiles_in (members_view left))
-
-pub read_none : (all left : List Entry) (known found : List NamedProfile) → left ≡ all → found ≡ [] → ReadForward all left known known found
-read_none all left known found is none = record {
-  front = [];
-  whole = sym is;
-  knows = λ are. are;
-  gives = λ are.
-      none_before (profiles_in (members_view all))
-      ∙ ap (λ (them : List Entry). after [] (profiles_in (members_view them))) (sym is)
-      ∙ ap (λ (them : List NamedProfile). after (map named_of them) (profiles_in (members_view left))) (sym none);
-}
-
--- what stands at the key of an entry
-stands_at : (front : List Entry) (key : String Global) (given : Value) (more : List Entry) → IsStrictlySortedBy string_cmp (keys_of (front ++ (key, given) ∷ more))
-    → get_member (string_bytes key) (members_view (front ++ (key, given) ∷ more)) ≡ Some (view given)
-stands_at front key given more rise =
-    ap (get_member (string_bytes key)) (set_between front key given more rise)
-    ∙ get_set (string_bytes key) (string_bytes key) (view given) (members_view (front ++ more))
-    ∙ rw (same_key (string_bytes key)) refl
-
-module _ (all left more : List Entry) (former known found : List NamedProfile) (told : List ℕ) (key : String Global) (given : Value) (rise : IsStrictlySortedBy string_cmp (keys_of all))
-    (is : ReadForward all left former known found) (here : left ≡ (key, given) ∷ more) (says : told ≡ string_bytes key) where
-  pub stands_next : get_member told (members_view all) ≡ Some (view given)
-  stands_next =
-      let whole : all ≡ is.front ++ (key, given) ∷ more = is.whole ∙ ap (λ (them : List Entry). is.front ++ them) here in
-      ap (λ (name : List ℕ). get_member name (members_view all)) says
-      ∙ ap (λ (them : List Entry). get_member (string_bytes key) (members_view them)) whole
-      ∙ stands_at is.front key given more (subst (λ (them : List Entry). IsStrictlySortedBy string_cmp (keys_of them)) whole rise)
-
-  -- one more
-  pub read_next : (added new : List NamedProfile) (one : NamedProfile) → added ≡ found ++ one ∷ []
-      → ((profiles : Members) → AreKnown profiles known → get_member told profiles ≡ Some (view given) → profile_at told (view given) ≡ Ok (named_of one))
-      → ((profiles : Members) → AreKnown profiles known → AreKnown profiles new) → ReadForward all more former new added
-  read_next added new one adds reads keeps = record {
-    front = is.front ++ (key, given) ∷ [];
-    whole = is.whole ∙ ap (λ (them : List Entry). is.front ++ them) here ∙ sym (append_assoc is.front ((key, given) ∷ []) more);
-    knows = λ are. keeps (members_view all) (is.knows are);
-    gives = λ are.
-        let it : profile_at told (view given) ≡ Ok (named_of one) = reads (members_view all) (is.knows are) stands_next in
-        is.gives are
-        ∙ ap (λ (them : List Entry). after (map named_of found) (profiles_in (members_view them))) here
-        ∙ read_more (map named_of found) (string_bytes key) (view given) (members_view more) (named_of one) (subst (λ (name : List ℕ). profile_at name (view given) ≡ Ok (named_of one)) says it)
-        ∙ ap (λ (done : List Named). after done (profiles_in (members_view more))) (sym (map_push named_of found one) ∙ ap (map named_of) (sym adds));
-  }
+-- as a loop comes to it
+pub found_more : (all : Members) (found added : List NamedProfile) (told : List ℕ) (one : NamedProfile) (key : String Global) (given : Value) (entries more : List (String Global × Value))
+    → entries ≡ (key, given) ∷ more → told ≡ string_bytes key → added ≡ found ++ one ∷ [] → profile_at told (view given) ≡ Ok (named_of one)
+    → profiles_in all ≡ after (map named_of found) (profiles_in (members_view entries)) → profiles_in all ≡ after (map named_of added) (profiles_in (members_view more))
+found_more all found added told one key given entries more here says adds is rest =
+    rest
+    ∙ ap (λ (left : List (String Global × Value)). after (map named_of found) (profiles_in (members_view left))) here
+    ∙ read_more (map named_of found) (string_bytes key) (view given) (members_view more) (named_of one) (subst (λ (name : List ℕ). profile_at name (view given) ≡ Ok (named_of one)) says is)
+    ∙ ap (λ (done : List Named). after done (profiles_in (members_view more))) (sym (map_push named_of found one) ∙ ap (map named_of) (sym adds))
 
 -- a member is refused
 pub refused_here : (all : Members) (done : List Named) (name : List ℕ) (given : Data) (more : Members) (told : ValueError) → profiles_in all ≡ after done (profiles_in (member name given more))

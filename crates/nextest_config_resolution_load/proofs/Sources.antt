@@ -7,11 +7,10 @@ use Rattle.std.specs.BTreeMap.{BTreeMap}
 use Rattle.std.specs.Borrow.{Bor}
 use Rattle.std.specs.List.{AllZip, cons_option}
 use Rattle.std.specs.Option.{option_map, option_to_list, unwrap_or}
-use Rattle.toml.specs.Data.{Data, table, Members}
+use Rattle.toml.specs.Data.{Members}
 use Rattle.toml.specs.View.{members_view, table_view, view}
 use Rattle.toml.specs.declared.value.Value.{Value}
-use Rattle.nextest_config_resolution_merge.specs.Tree.{over}
-use Rattle.nextest_config_resolution_load.specs.Checks.{file_of, file_with_setup, tree_of_files}
+use Rattle.nextest_config_resolution_load.specs.Checks.{file_of, file_with_setup}
 use Rattle.nextest_config_resolution_load.specs.Load.{IsFilterBy, IsSpecBy}
 use Rattle.nextest_config_resolution_load.specs.Reading.{AreReadFiles, AreRulesOf}
 use Rattle.nextest_config_resolution_load.specs.Warn.{AreKept, warnings_at, warnings_for}
@@ -32,7 +31,7 @@ listed_is None = refl
 listed_is (Some it) = refl
 
 -- its file, if there is one
-pub files_more : (done added : List Members) (all : List ConfigSource) (place : ℕ) (source : ConfigSource) (file : Option Members) → place < length all → source ≡ get_or all place source
+files_more : (done added : List Members) (all : List ConfigSource) (place : ℕ) (source : ConfigSource) (file : Option Members) → place < length all → source ≡ get_or all place source
     → file_of source ≡ file → done ≡ filter_map file_of (take place all) → added ≡ done ++ option_to_list file → added ≡ filter_map file_of (take (place + 1) all)
 files_more done added all place source file within is here so adds =
     adds
@@ -67,24 +66,17 @@ pub same_table : {E : Type 0} (Fails : E → Type 0) (from : BTreeMap (String Gl
 same_table Fails from (Ok to) all = same_entries from.entries to.entries all
 same_table Fails from (Err error) all = tt
 
--- files over others
-tree_both : (tree : Data) (front back : List Members) → tree_of_files tree (front ++ back) ≡ tree_of_files (tree_of_files tree front) back
-tree_both tree [] back = refl
-tree_both tree (file ∷ front) back = tree_both (over (table file) (Some tree)) front back
-
--- what one more comes to over them
-pub tree_more : (built_in tree added : Members) (all : List ConfigSource) (place : ℕ) (source : ConfigSource) (file : Option Members) → place < length all → source ≡ get_or all place source
-    → file_of source ≡ file → table tree ≡ tree_of_files (table built_in) (map file_with_setup (filter_map file_of (take place all)))
-    → table added ≡ tree_of_files (table tree) (map file_with_setup (option_to_list file))
-    → table added ≡ tree_of_files (table built_in) (map file_with_setup (filter_map file_of (take (place + 1) all)))
-tree_more built_in tree added all place source file within is here so adds =
+-- with its setup scripts where they stand now
+pub moved_more : (done added : List Members) (all : List ConfigSource) (place : ℕ) (source : ConfigSource) (file : Option Members) → place < length all → source ≡ get_or all place source
+    → file_of source ≡ file → done ≡ map file_with_setup (filter_map file_of (take place all)) → added ≡ done ++ map file_with_setup (option_to_list file)
+    → added ≡ map file_with_setup (filter_map file_of (take (place + 1) all))
+moved_more done added all place source file within is here so adds =
     let front = filter_map file_of (take place all) in
     let last = option_to_list file in
     adds
-    ∙ ap (λ (lower : Data). tree_of_files lower (map file_with_setup last)) so
-    ∙ sym (tree_both (table built_in) (map file_with_setup front) (map file_with_setup last))
-    ∙ ap (tree_of_files (table built_in))
-    (sym (map-append file_with_setup front last) ∙ ap (map file_with_setup) (files_more front (front ++ last) all place source file within is here refl refl))
+    ∙ ap (λ (them : List Members). them ++ map file_with_setup last) so
+    ∙ sym (map-append file_with_setup front last)
+    ∙ ap (map file_with_setup) (files_more front (front ++ last) all place source file within is here refl refl)
 
 -- what is kept behind what was kept
 kept_both : (old now new : Option (List Told)) (front last : List Told) → AreKept old now front → AreKept now new last → AreKept old new (front ++ last)
@@ -106,13 +98,13 @@ kept_more old now new all place source file within is here so adds =
     (kept_both old now new front (warnings_at source file) so adds)
 
 -- all of them
-pub files_read : {F S : Type 0} (Is : IsFilterBy F) (IsSpec : IsSpecBy S) (built_in : Members) (all : List ConfigSource) (place : ℕ) (it : ReadFiles F S) → length all ≤ place
-    → table (members_view it.tree) ≡ tree_of_files (table built_in) (map file_with_setup (filter_map file_of (take place all)))
-    → AreRulesOf Is IsSpec (take place all) it.rules.items → AreReadFiles Is IsSpec built_in all it
-files_read Is IsSpec built_in all place it over tree rules =
+pub files_read : {F S : Type 0} (Is : IsFilterBy F) (IsSpec : IsSpecBy S) (all : List ConfigSource) (place : ℕ) (it : ReadFiles F S) → length all ≤ place
+    → map table_view it.files.items ≡ map file_with_setup (filter_map file_of (take place all))
+    → AreRulesOf Is IsSpec (take place all) it.rules.items → AreReadFiles Is IsSpec all it
+files_read Is IsSpec all place it over files rules =
     let whole = take_all place all over in
     record {
-      tree = tree ∙ ap (λ (sources : List ConfigSource). tree_of_files (table built_in) (map file_with_setup (filter_map file_of sources))) whole;
+      files = files ∙ ap (λ (sources : List ConfigSource). map file_with_setup (filter_map file_of sources)) whole;
       rules = subst (λ (sources : List ConfigSource). AreRulesOf Is IsSpec sources it.rules.items) whole rules;
     }
 

@@ -39,6 +39,12 @@ seen_at key (Ok x) reading e = ap (under key) e
 seen_at key (Err (value_error.Refused bad)) reading e = sym (at_key key reading) ∙ e
 seen_at key (Err value_error.OutOfMemory) reading e = tt
 
+-- what is read of a value that was found
+pub read_found : {A : Type 0} (key : List ℕ) (reading : Option Data → Reading A) (lent : Option (Bor Value)) (found : Option Value) (given : Option Data) (result : Result A ValueError)
+    → option_copied lent ≡ found → option_map view found ≡ given → GivesAt (key ∷ []) result (reading (option_map (λ it. view it.now) lent)) → GivesSeen (λ it. it) result (under key (reading given))
+read_found {A} key reading lent found given result same is gives =
+    seen_at key result (reading given) (subst (λ (it : Option Data). GivesAt (key ∷ []) result (reading it)) (ref_view lent found same ∙ is) gives)
+
 -- what is refused further down, handed on
 pub handed_on : {A B : Type 0} (view : A → B) (result : Result A ValueError) (told : ValueError) (reading : Reading B) → IsErrAnd result (λ error. error ≡ told)
     → GivesSeen view (Err told) reading → GivesSeen view result reading

@@ -12,7 +12,7 @@ use Rattle.nextest_config_resolution_scripts.specs.declared.script_config.NamedS
 use Rattle.nextest_config_resolution_scripts.specs.declared.script_config.ScriptConfig.{ScriptConfig}
 use Rattle.nextest_config_resolution_scripts.specs.declared.script_rule.ScriptRuleConfig.{ScriptRuleConfig}
 use Rattle.nextest_config_resolution_sources.specs.declared.source.ConfigSource.{ConfigSource}
-use Rattle.nextest_config_resolution_merge.specs.Merged.{IsMerged}
+use Rattle.nextest_config_resolution_tree.specs.Merged.{IsMerged}
 use Rattle.nextest_config_resolution_load.specs.Checks.{tree_of_files}
 use Rattle.nextest_config_resolution_load.specs.Load.{IsFilterBy, IsLoaded, IsLoadedAs, IsSpecBy, reason_of, merged_of}
 use Rattle.nextest_config_resolution_load.specs.Rules.{is_defined}

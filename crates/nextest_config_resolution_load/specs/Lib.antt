@@ -1,11 +1,9 @@
 pub mod Checks
 pub mod File
 pub mod Kinds
-pub mod Known
 pub mod Languages
 pub mod Laws
 pub mod Load
-pub mod Merging
 pub mod Reading
 pub mod Refusal
 pub mod Refusing

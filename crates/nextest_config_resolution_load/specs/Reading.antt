@@ -5,22 +5,17 @@ use Rattle.std.specs.Cmp.Lexicographic.{slice_cmp}
 use Rattle.std.specs.List.{AllZip, flat_map}
 use Rattle.std.specs.Ordering.{nat_cmp}
 use denote.Ref.{Bor}
-use Rattle.toml.specs.Data.{Data, table, Members}
-use Rattle.toml.specs.View.{members_view}
-use Rattle.nextest_config_elements_toml.specs.Paths.{GivesAt}
+use Rattle.toml.specs.Data.{Data, Members}
+use Rattle.toml.specs.View.{table_view}
 use Rattle.nextest_config_elements_toml.specs.Reading.{Path, Reading, ◌>>=◌, under}
 use Rattle.nextest_config_elements_toml.specs.declared.value_error.ValueError.{ValueError}
 use Rattle.nextest_config_elements_toml.specs.declared.value_error.ValueError.TheVariants as error
-use Rattle.nextest_config_elements_deserialize.specs.Paths.{profile_path}
 use Rattle.nextest_config_resolution_inheritance.specs.Inheritance.{Rise}
 use Rattle.nextest_config_resolution_load.specs.Checks.{Check, FileRules, must_hold, repeated_script, MergedConfig, bad_merged, config_in, file_of, file_with_setup, merged_in, no_toml, parents_of, rules_in, rules_of_source, source_checks, tree_of_files, value_checks}
-use Rattle.nextest_config_resolution_load.specs.Known.{unboxed}
 use Rattle.nextest_config_resolution_load.specs.Load.{AreReadRules, AreReadScriptRules, IsFilterBy, IsReadAs, IsSpecBy, LoadedOverride, LoadedScriptRule, named_of, reason_of, merged_of}
 use Rattle.nextest_config_resolution_load.specs.Rules.{rules_at, script_placed_in, script_rules_at}
 use Rattle.nextest_config_resolution_load.specs.Rules as words
 use Rattle.nextest_config_resolution_load.specs.declared.file_config.ProfileRules.{ProfileRules}
-use Rattle.nextest_config_resolution_load.specs.declared.file_reading.ReadProfile.{ReadProfile}
-use Rattle.nextest_config_resolution_load.specs.declared.file_reading.ReadProfiles.{ReadProfiles}
 use Rattle.nextest_config_resolution_load.specs.declared.languages.FilterPurpose.TheVariants as purpose
 use Rattle.nextest_config_resolution_load.specs.declared.load_error.LoadError.{LoadError}
 use Rattle.nextest_config_resolution_load.specs.declared.load_error.LoadError.TheVariants as told_error
@@ -28,7 +23,6 @@ use Rattle.nextest_config_resolution_load.specs.declared.loaded_config.LoadedCon
 use Rattle.nextest_config_resolution_load.specs.declared.loaded_config.NamedProfile.{NamedProfile}
 use Rattle.nextest_config_resolution_load.specs.declared.loaded_config.ReadConfig.{ReadConfig}
 use Rattle.nextest_config_resolution_load.specs.declared.loaded_rule.LoadedRule.{LoadedRule}
-use Rattle.nextest_config_resolution_load.specs.declared.placed_file.ReadFile.{ReadFile}
 use Rattle.nextest_config_resolution_load.specs.declared.placed_file.ReadFiles.{ReadFiles}
 use Rattle.nextest_config_resolution_load.specs.declared.placed_file.ReadSources.{ReadSources}
 use Rattle.nextest_config_resolution_load.specs.declared.placed_file.SourceRules.{SourceRules}
@@ -44,11 +38,6 @@ abbrev pub GivesSeen : {A B : Type 0} → (A → B) → Result A ValueError → 
 GivesSeen view (Ok x) reading = reading ≡ Ok (view x)
 GivesSeen view (Err (error.Refused bad)) reading = reading ≡ Err bad.path.keys
 GivesSeen view (Err error.OutOfMemory) reading = ⊤
-
--- the same of what it reads at a path
-abbrev pub GivesSeenAt : {A B : Type 0} → (A → B) → Path → Result A ValueError → Reading B → Type 0
-GivesSeenAt {A} {B} view path (Ok x) reading = reading ≡ Ok (view x)
-GivesSeenAt {A} {B} view path (Err told) reading = GivesAt {A = B} path (Err told) reading
 
 -- ---- the rules of sources
 
@@ -99,49 +88,16 @@ third keys = get_or keys 2 []
 abbrev pub refused_values : Path → Reading ProfileConfig
 refused_values path = Err path
 
--- what a call gives of some profiles, those behind others first, are their rules: it reads them under
--- `profile`
-abbrev pub GivesBackward : Result ReadProfiles ValueError → Reading (List ProfileRules) → Type 0
-GivesBackward read reading = GivesSeenAt (λ it. reverse it.rules.items) (codes "profile" ∷ []) read reading
-
--- the profile of a name, and others behind it
-abbrev pub first_and : List ℕ → Reading ProfileRules → Reading (List ProfileRules) → Reading (List ProfileRules)
-first_and name first others = do
-  one ← under name first
-  more ← others
-  Ok (one ∷ more)
-
--- what a call read of a profile is put before what others gave
-abbrev pub IsPutBefore : Result ReadProfile ValueError → Result ReadProfiles ValueError → Result ReadProfiles ValueError → Type 0
-IsPutBefore one others result = (name : List ℕ) (first : Reading ProfileRules) (rest : Reading (List ProfileRules))
-    → GivesSeenAt (λ it. it.rules) (profile_path name) one first → GivesBackward others rest → GivesBackward result (first_and name first rest)
-
--- what a call read of a profile is known, if it is to be
-abbrev pub known_if : Bool → Result ReadProfile ValueError → List NamedProfile
-known_if true (Ok it) = record { name = it.rules.profile; config = it.config } ∷ []
-known_if true (Err told) = []
-known_if false one = []
-
--- with others
-abbrev pub KnowsMore : Bool → Result ReadProfile ValueError → Result ReadProfiles ValueError → Result ReadProfiles ValueError → Type 0
-KnowsMore is_known one (Ok others) (Ok it) = unboxed it.known.items ≡ unboxed others.known.items ++ known_if is_known one
-KnowsMore is_known one (Err told) (Ok it) = ⊥
-KnowsMore is_known one others (Err told) = ⊤
-
 -- a call parses the text of a file, or it is no TOML; want of memory says nothing
 abbrev pub ParsesText : {T : Type 0} → (T → Members) → List ℕ → Option Members → Result T LoadError → Type 0
 ParsesText view path given (Ok it) = given ≡ Some (view it)
 ParsesText view path given (Err (told_error.Refused told)) = (given ≡ None) × (reason_of told ≡ no_toml path)
 ParsesText view path given (Err told_error.OutOfMemory) = ⊤
 
--- what was read of the file at a path, if there is one: what it comes to over a tree, and its rules
-pub record IsReadFile {F S : Type 0} (Is : IsFilterBy F) (IsSpec : IsSpecBy S) (path : List ℕ) (given : Option Members) (lower : Members) (it : ReadFile F S) : Type 0 where
-  pub tree : table (members_view it.tree) ≡ tree_of_files (table lower) (map file_with_setup (option_to_list given))
-  pub rules : AreReadInFile Is IsSpec (rules_in path given) it.rules
-
--- what was read of some sources: what their files come to over what is built in, and their rules
-pub record AreReadFiles {F S : Type 0} (Is : IsFilterBy F) (IsSpec : IsSpecBy S) (built_in : Members) (sources : List ConfigSource) (it : ReadFiles F S) : Type 0 where
-  pub tree : table (members_view it.tree) ≡ tree_of_files (table built_in) (map file_with_setup (filter_map file_of sources))
+-- what was read of some sources: their files, with their setup scripts where they stand now, and
+-- their rules
+pub record AreReadFiles {F S : Type 0} (Is : IsFilterBy F) (IsSpec : IsSpecBy S) (sources : List ConfigSource) (it : ReadFiles F S) : Type 0 where
+  pub files : map table_view it.files.items ≡ map file_with_setup (filter_map file_of sources)
   pub rules : AreRulesOf Is IsSpec sources it.rules.items
 
 -- ---- names

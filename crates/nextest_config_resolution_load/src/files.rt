@@ -1,12 +1,11 @@
 // The files of sources.
-ghost use Rattle.std.specs.Prelude.{◌≡◌, [], None, Ok, map, IfOk, OnOk};
+ghost use Rattle.std.specs.Prelude.{◌≡◌, ◌++◌, [], None, Ok, map, option_to_list, OnOk};
 ghost use Rattle.std.specs.List.{flat_map};
 ghost use Rattle.toml.specs.Parse.{parse_document};
-ghost use Rattle.toml.specs.View.{members_view, table_view};
-ghost use Rattle.nextest_config_resolution_load.specs.Checks.{document_checks, file_checks, file_of, file_with_setup, missing_checks, rules_in_file, source_checks};
-ghost use Rattle.nextest_config_resolution_merge.specs.Tree.{merge};
+ghost use Rattle.toml.specs.View.{table_view};
+ghost use Rattle.nextest_config_resolution_load.specs.Checks.{document_checks, file_checks, file_of, file_with_setup, missing_checks, no_rules, rules_in, rules_in_file, rules_of_source, source_checks};
 ghost use Rattle.nextest_config_resolution_load.specs.File.{file_in};
-ghost use Rattle.nextest_config_resolution_load.specs.Reading.{AreReadFiles, AreReadInFile, IsReadFile, ParsesText};
+ghost use Rattle.nextest_config_resolution_load.specs.Reading.{AreReadFiles, AreReadInFile, ParsesText};
 ghost use Rattle.nextest_config_resolution_load.specs.Refusing.{Passes};
 ghost use Rattle.nextest_config_resolution_load.specs.Warn.{AreKept, warnings_at, warnings_for};
 
@@ -15,10 +14,10 @@ use crate::file_config::FileConfig;
 use crate::file_reading::read_file;
 use crate::languages::Languages;
 use crate::load_error::LoadError;
-use crate::placed_file::{ReadFile, ReadFiles, SourceRules};
+use crate::merging::with_setup;
+use crate::placed_file::{ReadFiles, SourceRules};
 use crate::profile_rules::load_profiles;
 use crate::refusing::{bad_value, no_toml, unread};
-use crate::tree::Tree;
 use crate::warn::keep_warnings;
 use nextest_config_elements_identifiers::ConfigSourceKind;
 use nextest_config_elements_toml::ValueError;
@@ -26,14 +25,13 @@ use nextest_config_elements_versions::FeatureSet;
 use nextest_config_resolution_sources::{ConfigSource, ConfigSourceOutcome};
 use nextest_config_resolution_warnings::KeptWarnings;
 use nextest_text::{Listing, Text};
-use std::alloc::{AllocError, Global};
+use std::alloc::Global;
 use toml::Table;
 
-// What the files of some sources come to, each over the lower ones and over what is built in, and
-// the rules of each source. What is told of the files is kept, if anything is.
+// The files of some sources, and the rules of each source. What is told of the files is kept, if
+// anything is.
 pub(crate) fn read_files<'s, R: Languages>(
     alloc: Global,
-    built_in: &Table,
     cx: &R::Cx,
     features: FeatureSet,
     sources: &[&'s ConfigSource],
@@ -41,51 +39,42 @@ pub(crate) fn read_files<'s, R: Languages>(
 ) -> Result<ReadFiles<R::Filter, R::Spec>, LoadError>
     ensures read { let all = map (λ it. it.now) sources.now in Passes
         (R.is_filter cx.now) R.is_spec R.is_too_deep (flat_map (source_checks features) all)
-        (AreReadFiles (R.is_filter cx.now) R.is_spec (table_view built_in.now) all) result }
+        (AreReadFiles (R.is_filter cx.now) R.is_spec all) result }
     ensures kept { OnOk result (AreKept kept.old kept.new
         (flat_map warnings_for (map (λ it. it.now) sources.now))) }
 {
-    let mut tree = Tree::new(alloc, copied(built_in)?);
+    let mut files = Vec::new(alloc);
     let mut rules = Vec::new(alloc);
-    let last = sources.len().saturating_sub(1);
     for source in sources {
-        tree.await_highest(rules.len() == last);
-        let read = read_source::<R>(alloc, cx, features, source, tree, kept)?;
-        tree = read.tree;
-        rules.push(read.rules)?;
+        let own = read_source::<R>(alloc, cx, features, source, &mut files, kept)?;
+        rules.push(own)?;
     }
-    Ok(ReadFiles { tree, rules })
+    Ok(ReadFiles { files, rules })
 }
 
-// A copy of a table.
-fn copied(table: &Table) -> Result<Table, AllocError>
-    ensures { IfOk result (λ it. table_view it ≡ table_view table.now) }
-{
-    table.clone()
-}
-
-// What the file of a source, if there is one, comes to over a tree, and its rules. What is told of
-// the file is kept, if anything is.
+// The rules of a source. Its file, if there is one, is put behind others, and what is told of it is
+// kept, if anything is.
 fn read_source<'s, R: Languages>(
     alloc: Global,
     cx: &R::Cx,
     features: FeatureSet,
     source: &'s ConfigSource,
-    tree: Tree,
+    files: &mut Vec<Table>,
     kept: &mut Option<KeptWarnings<'s>>,
-) -> Result<ReadFile<R::Filter, R::Spec>, LoadError>
-    ensures read { let given = file_of source.now in Passes
-        (R.is_filter cx.now) R.is_spec R.is_too_deep (source_checks features source.now)
-        (IsReadFile (R.is_filter cx.now) R.is_spec source.now.path given (members_view tree))
-        result }
+) -> Result<SourceRules<R::Filter, R::Spec>, LoadError>
+    ensures rules { Passes (R.is_filter cx.now) R.is_spec R.is_too_deep
+        (source_checks features source.now)
+        (AreReadInFile (R.is_filter cx.now) R.is_spec (rules_of_source source.now)) result }
+    ensures files { OnOk result (map table_view files.new.items ≡ map table_view files.old.items
+        ++ map file_with_setup (option_to_list (file_of source.now))) }
     ensures kept { OnOk result (AreKept kept.old kept.new (warnings_for source.now)) }
 {
     let path = source.path.as_str();
     match &source.outcome {
         ConfigSourceOutcome::Text(text) => {
-            read_text::<R>(alloc, cx, features, source, text.as_str(), tree, kept)
+            read_text::<R>(alloc, cx, features, source, text.as_str(), files, kept)
         }
-        ConfigSourceOutcome::NotFound => read_missing::<R>(alloc, cx, path, &source.kind, tree),
+        ConfigSourceOutcome::NotFound => read_missing::<R>(alloc, cx, path, &source.kind),
         ConfigSourceOutcome::Failed(cause) => Err(unread(alloc, path, cause.as_str())),
     }
 }
@@ -96,16 +85,12 @@ fn read_missing<R: Languages>(
     cx: &R::Cx,
     path: &str,
     kind: &ConfigSourceKind,
-    tree: Tree,
-) -> Result<ReadFile<R::Filter, R::Spec>, LoadError>
+) -> Result<SourceRules<R::Filter, R::Spec>, LoadError>
     ensures { Passes (R.is_filter cx.now) R.is_spec R.is_too_deep (missing_checks path.now kind.now)
-        (IsReadFile (R.is_filter cx.now) R.is_spec path.now None (members_view tree)) result }
+        (AreReadInFile (R.is_filter cx.now) R.is_spec no_rules) result }
 {
     match kind {
-        ConfigSourceKind::DiscoveredRepository => Ok(ReadFile {
-            tree,
-            rules: no_rules(alloc),
-        }),
+        ConfigSourceKind::DiscoveredRepository => Ok(no_rules(alloc)),
         ConfigSourceKind::Tool(_) | ConfigSourceKind::ExplicitRepository => {
             Err(unread(alloc, path, "there is no such file"))
         }
@@ -123,29 +108,31 @@ fn no_rules<F: Drop, S: Drop>(alloc: Global) -> SourceRules<F, S>
     }
 }
 
-// What the file of a source with this text comes to over a tree, and its rules.
+// The rules of a source whose file has this text. The file is put behind others, with its setup
+// scripts where they stand now, and what is told of it is kept, if anything is.
 fn read_text<'s, R: Languages>(
     alloc: Global,
     cx: &R::Cx,
     features: FeatureSet,
     source: &'s ConfigSource,
     text: &str,
-    tree: Tree,
+    files: &mut Vec<Table>,
     kept: &mut Option<KeptWarnings<'s>>,
-) -> Result<ReadFile<R::Filter, R::Spec>, LoadError>
-    ensures read { let given = parse_document text.now in Passes (R.is_filter cx.now) R.is_spec
+) -> Result<SourceRules<R::Filter, R::Spec>, LoadError>
+    ensures rules { let given = parse_document text.now in Passes (R.is_filter cx.now) R.is_spec
         R.is_too_deep (document_checks features source.now.path source.now.kind given)
-        (IsReadFile (R.is_filter cx.now) R.is_spec source.now.path given (members_view tree))
-        result }
+        (AreReadInFile (R.is_filter cx.now) R.is_spec (rules_in source.now.path given)) result }
+    ensures files { OnOk result (map table_view files.new.items ≡ map table_view files.old.items
+        ++ map file_with_setup (option_to_list (parse_document text.now))) }
     ensures kept { OnOk result
         (AreKept kept.old kept.new (warnings_at source.now (parse_document text.now))) }
 {
     let path = source.path.as_str();
     let file = parse_text(alloc, path, text)?;
     keep_warnings(kept, source, &file)?;
-    let mut tree = tree;
-    let rules = read_rules::<R>(alloc, cx, features, path, &source.kind, file, &mut tree)?;
-    Ok(ReadFile { tree, rules })
+    let rules = read_rules::<R>(alloc, cx, features, path, &source.kind, &file)?;
+    files.push(with_setup(alloc, file)?)?;
+    Ok(rules)
 }
 
 // The file of a text.
@@ -162,23 +149,20 @@ fn parse_text(alloc: Global, path: &str, text: &str) -> Result<Table, LoadError>
     }
 }
 
-// The rules of a file, whose values are all such as their keys can have. It is put over a tree.
+// The rules of a file, whose values are all such as their keys can have.
 fn read_rules<R: Languages>(
     alloc: Global,
     cx: &R::Cx,
     features: FeatureSet,
     path: &str,
     kind: &ConfigSourceKind,
-    file: Table,
-    tree: &mut Tree,
+    file: &Table,
 ) -> Result<SourceRules<R::Filter, R::Spec>, LoadError>
-    ensures rules { let given = file_in (table_view file) in Passes (R.is_filter cx.now)
+    ensures { let given = file_in (table_view file.now) in Passes (R.is_filter cx.now)
         R.is_spec R.is_too_deep (file_checks features path.now kind.now given) (λ it.
         AreReadInFile (R.is_filter cx.now) R.is_spec (rules_in_file path.now given) it) result }
-    ensures tree { OnOk result (members_view tree.new
-        ≡ merge (file_with_setup (table_view file)) (members_view tree.old)) }
 {
-    match read_file(alloc, file, tree) {
+    match read_file(alloc, file) {
         Ok(config) => rules_of::<R>(alloc, cx, features, path, kind, config),
         Err(ValueError::Refused(bad)) => Err(bad_value(alloc, path, bad)),
         Err(ValueError::OutOfMemory) => Err(LoadError::OutOfMemory),

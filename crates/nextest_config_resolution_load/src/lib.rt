@@ -34,7 +34,6 @@ mod reading;
 mod refusing;
 mod rule_id;
 mod rules;
-mod tree;
 mod warn;
 
 pub use file_config::{FileConfig, ProfileRules};

@@ -1,7 +1,10 @@
 // What the sources of a configuration come to.
 ghost use Rattle.std.specs.Prelude.{◌≡◌, ⊤, [], ◌∷◌, IfOk, OnOk};
-ghost use Rattle.toml.specs.View.{members_view, table_view};
+ghost use Rattle.toml.specs.Data.{Members, table};
+ghost use Rattle.toml.specs.View.{table_view};
 ghost use Rattle.nextest_config_resolution_inheritance.specs.Inheritance.{Rise};
+ghost use Rattle.nextest_config_resolution_tree.specs.Ends.{IsListOf};
+ghost use Rattle.nextest_config_resolution_tree.specs.RunOf.{list_of};
 ghost use Rattle.nextest_config_resolution_load.specs.Checks.{bad_merged, config_in, inheritance, merged_checks, named_checks, parents_of, value_checks};
 ghost use Rattle.nextest_config_resolution_load.specs.Load.{IsLoaded, merged_of};
 ghost use Rattle.nextest_config_resolution_load.specs.Reading.{AreReadSources, IsCompleted, all_placed, downward, early_checks, overrides_of, read_as, scripts_of, values_of};
@@ -15,15 +18,16 @@ use crate::languages::Languages;
 use crate::load_error::LoadError;
 use crate::load_fault::LoadFault;
 use crate::loaded_config::{LoadedConfig, ReadConfig};
+use crate::merging::merged;
 use crate::named_scripts::check_scripts;
 use crate::placed_file::{ReadSources, SourceRules};
 use crate::reading::read_config;
-use crate::tree::Tree;
 use nextest_config_elements_toml::ValueError;
 use nextest_config_elements_versions::FeatureSet;
 use nextest_config_resolution_inheritance::{InheritanceError, check_inheritance};
 use nextest_config_resolution_scripts::ScriptType;
 use nextest_config_resolution_sources::{ConfigSource, counted};
+use nextest_config_resolution_tree::MergedTree;
 use nextest_config_resolution_warnings::{ConfigWarnings, KeptWarnings};
 use nextest_text::Listing;
 use std::alloc::{AllocError, Global};
@@ -117,8 +121,9 @@ fn read_sources<'s, R: Languages>(
     ensures kept { OnOk result (AreKept kept.old kept.new (warnings_in sources.now)) }
 {
     let counted = counted(alloc, sources)?;
-    let read = read_files::<R>(alloc, built_in, cx, features, counted.as_slice(), kept)?;
-    let config = read_tree::<R>(alloc, cx, read.tree)?;
+    let read = read_files::<R>(alloc, cx, features, counted.as_slice(), kept)?;
+    let tree = merged(alloc, built_in, read.files)?;
+    let config = read_tree::<R>(alloc, cx, &tree)?;
     Ok(ReadSources {
         config,
         rules: read.rules,
@@ -126,10 +131,14 @@ fn read_sources<'s, R: Languages>(
 }
 
 // What a merged tree says, whose values are all such as their keys can have.
-fn read_tree<R: Languages>(alloc: Global, cx: &R::Cx, tree: Tree) -> Result<ReadConfig, LoadError>
-    ensures read { let given = config_in (members_view tree)
-        in Passes (R.is_filter cx.now) R.is_spec R.is_too_deep (value_checks bad_merged given)
-        (λ it. given ≡ read_as it) result }
+fn read_tree<R: Languages>(
+    alloc: Global,
+    cx: &R::Cx,
+    tree: &MergedTree,
+) -> Result<ReadConfig, LoadError>
+    ensures read { (top : Members) → IsListOf (list_of tree.now) (table top)
+        → Passes (R.is_filter cx.now) R.is_spec R.is_too_deep
+        (value_checks bad_merged (config_in top)) (λ it. config_in top ≡ read_as it) result }
     ensures rises { IfOk result (λ it. Rise (parents_of (values_of it).profiles)) }
 {
     match read_config(alloc, tree) {

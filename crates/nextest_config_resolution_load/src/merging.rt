@@ -1,25 +1,57 @@
-// A file over what lower ones come to.
-ghost use Rattle.std.specs.Prelude.{◌≡◌, codes, IfOk, option_map};
-ghost use Rattle.toml.specs.Data.{get_member, member, no_members};
+// What files come to, each over the lower ones.
+ghost use Rattle.std.specs.Prelude.{◌≡◌, codes, map, IfOk, option_map};
+ghost use Rattle.toml.specs.Data.{get_member, member, no_members, table};
 ghost use Rattle.toml.specs.View.{table_view, view};
-ghost use Rattle.nextest_config_resolution_merge.specs.Tree.{merge};
-ghost use Rattle.nextest_config_resolution_load.specs.Checks.{as_setup, file_with_setup};
-ghost use Rattle.nextest_config_resolution_load.specs.Merging.{IsTakenOut, members_at};
+ghost use Rattle.nextest_config_resolution_tree.specs.Ends.{IsListOf};
+ghost use Rattle.nextest_config_resolution_tree.specs.RunOf.{list_of};
+ghost use Rattle.nextest_config_resolution_tree.specs.Tree.{merge};
+ghost use Rattle.nextest_config_resolution_load.specs.Checks.{as_setup, file_with_setup, members_of, tree_of_files};
 
 use nextest_config_elements_toml::member;
-use nextest_config_resolution_merge::merge;
+use nextest_config_resolution_tree::MergedTree;
 use std::alloc::{AllocError, Global};
 use toml::{Table, Value};
 
-// A file over a tree, with its setup scripts where they stand now.
-pub(crate) fn file_over(alloc: Global, file: Table, tree: Table) -> Result<Table, AllocError>
-    ensures { IfOk result (λ it.
-        table_view it ≡ merge (file_with_setup (table_view file)) (table_view tree)) }
+// What files come to, each over the lower ones and over what is built in, the lowest first.
+pub(crate) fn merged(
+    alloc: Global,
+    built_in: &Table,
+    files: Vec<Table>,
+) -> Result<MergedTree, AllocError>
+    ensures { IfOk result (λ it. IsListOf (list_of it) (table (members_of
+        (tree_of_files (table (table_view built_in.now)) (map table_view files.items))))) }
+{
+    let mut downward = files;
+    downward.reverse();
+    downward.push(copied(built_in)?)?;
+    MergedTree::of_files(alloc, downward)
+}
+
+// A copy of a table.
+fn copied(table: &Table) -> Result<Table, AllocError>
+    ensures { IfOk result (λ it. table_view it ≡ table_view table.now) }
+{
+    table.clone()
+}
+
+// A file whose setup scripts stand where they stand now.
+pub(crate) fn with_setup(alloc: Global, file: Table) -> Result<Table, AllocError>
+    ensures { IfOk result (λ it. table_view it ≡ file_with_setup (table_view file)) }
 {
     match moved_scripts(alloc, &file)? {
-        None => merge(alloc, file, tree),
-        Some(scripts) => merge(alloc, merge(alloc, scripts, file)?, tree),
+        None => Ok(file),
+        Some(scripts) => over(alloc, scripts, file),
     }
+}
+
+// A table over another.
+fn over(alloc: Global, higher: Table, lower: Table) -> Result<Table, AllocError>
+    ensures { IfOk result (λ it. table_view it ≡ merge (table_view higher) (table_view lower)) }
+{
+    let mut tables = Vec::new(alloc);
+    tables.push(higher)?;
+    tables.push(lower)?;
+    MergedTree::of_files(alloc, tables)?.to_table(alloc)
 }
 
 // What stands under `script` in a file, as it stands under `scripts.setup`.
@@ -49,24 +81,4 @@ fn only(alloc: Global, key: &str, value: Value) -> Result<Table, AllocError>
     let key = String::from_str(alloc, key)?;
     table.insert(key, value)?;
     Ok(table)
-}
-
-// Takes out what stands at a key of a table.
-pub(crate) fn take_out(table: &mut Table, key: &str) -> Option<Value>
-    ensures value { option_map view result ≡ get_member key.now (table_view table.old) }
-    ensures left { IsTakenOut
-        key.now (option_map view result) (table_view table.old) (table_view table.new) }
-{
-    let _keys = table.len();
-    table.remove(key)
-}
-
-// The table that stands somewhere, or an empty one.
-pub(crate) fn table_at(alloc: Global, value: Option<Value>) -> Table
-    ensures { table_view result ≡ members_at (option_map view value) }
-{
-    match value {
-        Some(Value::Table(table)) => table,
-        _ => Table::new(alloc),
-    }
 }

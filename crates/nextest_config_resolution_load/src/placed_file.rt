@@ -1,8 +1,8 @@
 // What is read of sources.
 use crate::loaded_config::ReadConfig;
 use crate::loaded_rule::{LoadedOverride, LoadedScriptRule};
-use crate::tree::Tree;
 use nextest_text::Listing;
+use toml::Table;
 
 // The rules of a file.
 #[derive(Drop)]
@@ -11,18 +11,11 @@ pub(crate) struct SourceRules<Filter, Spec> {
     pub(crate) scripts: Listing<LoadedScriptRule<Filter, Spec>>,
 }
 
-// What was read of a source: what its file, if there is one, comes to over lower ones, and the
-// rules in it.
-#[derive(Drop)]
-pub(crate) struct ReadFile<Filter, Spec> {
-    pub(crate) tree: Tree,
-    pub(crate) rules: SourceRules<Filter, Spec>,
-}
-
-// What was read of sources: what their files come to, and the rules of each source.
+// What was read of sources: their files, with their setup scripts where they stand now, and the
+// rules of each source.
 #[derive(Drop)]
 pub(crate) struct ReadFiles<Filter, Spec> {
-    pub(crate) tree: Tree,
+    pub(crate) files: Vec<Table>,
     pub(crate) rules: Vec<SourceRules<Filter, Spec>>,
 }
 

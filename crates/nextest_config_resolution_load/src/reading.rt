@@ -1,42 +1,38 @@
 // What a merged tree says.
-ghost use Rattle.std.specs.Prelude.{◌≡◌, List, [], ◌∷◌, ◌++◌, Some, codes, map, IfOk, IsTrue};
-ghost use Rattle.toml.specs.Data.{Members, get_member};
-ghost use Rattle.toml.specs.View.{members_view, table_view, view};
+ghost use Rattle.std.specs.Prelude.{◌≡◌, codes, map, IfOk, option_map};
+ghost use Rattle.toml.specs.Data.{Members, get_member, table};
+ghost use Rattle.toml.specs.View.{table_view, view};
 ghost use Rattle.nextest_config_elements_toml.specs.Reading.{under};
 ghost use Rattle.nextest_config_resolution_inheritance.specs.Inheritance.{Rise};
 ghost use Rattle.nextest_config_resolution_overrides.specs.Groups.{groups_at};
 ghost use Rattle.nextest_config_resolution_scripts.specs.Scripts.{scripts_at};
-ghost use Rattle.nextest_config_resolution_values.specs.File.{profiles_at, profiles_in, store_dir_at};
+ghost use Rattle.nextest_config_resolution_tree.specs.Ends.{IsListOf};
+ghost use Rattle.nextest_config_resolution_tree.specs.RunOf.{list_of};
+ghost use Rattle.nextest_config_resolution_values.specs.File.{profiles_at, profiles_in, profiles_of, store_dir_at};
 ghost use Rattle.nextest_config_resolution_load.specs.Checks.{config_in, parents_of};
-ghost use Rattle.nextest_config_resolution_load.specs.Known.{AreKnown, Boxed, unboxed};
 ghost use Rattle.nextest_config_resolution_load.specs.Load.{named_of};
 ghost use Rattle.nextest_config_resolution_load.specs.Reading.{GivesSeen, profile_at, values_of};
 
 use crate::loaded_config::{NamedProfile, ReadConfig};
-use crate::merging::take_out;
-use crate::tree::Tree;
-use nextest_config_elements_toml::{ValueError, member, refused};
+use nextest_config_elements_toml::{ValueError, refused};
 use nextest_config_resolution_overrides::{NamedGroup, deserialize_test_groups};
 use nextest_config_resolution_scripts::{ScriptConfig, deserialize_scripts};
+use nextest_config_resolution_tree::MergedTree;
 use nextest_config_resolution_values::{deserialize_profile_value, deserialize_store_dir};
 use nextest_text::{Listing, Text};
-use std::alloc::Global;
+use std::alloc::{AllocError, Global};
 use toml::{Table, Value};
 
-// What a tree says of profiles, scripts, the store and groups. Each profile is dropped once it is
-// read, while a cache still has it, so all else is read before them.
-pub(crate) fn read_config(alloc: Global, tree: Tree) -> Result<ReadConfig, ValueError>
-    ensures read { GivesSeen values_of result (config_in (members_view tree)) }
+// What a tree says of profiles, scripts, the store and groups.
+pub(crate) fn read_config(alloc: Global, tree: &MergedTree) -> Result<ReadConfig, ValueError>
+    ensures read { (top : Members) → IsListOf (list_of tree.now) (table top)
+        → GivesSeen values_of result (config_in top) }
     ensures rises { IfOk result (λ it. Rise (parents_of (values_of it).profiles)) }
 {
-    let table = tree.table();
-    let scripts = read_scripts(alloc, table);
-    let store_dir = read_store_dir(alloc, table);
-    let groups = read_groups(alloc, table);
     let profiles = read_profiles(alloc, tree)?;
-    let scripts = scripts?;
-    let store_dir = store_dir?;
-    let groups = groups?;
+    let scripts = read_scripts(alloc, tree)?;
+    let store_dir = read_store_dir(alloc, tree)?;
+    let groups = read_groups(alloc, tree)?;
     Ok(ReadConfig {
         profiles,
         groups,
@@ -45,91 +41,76 @@ pub(crate) fn read_config(alloc: Global, tree: Tree) -> Result<ReadConfig, Value
     })
 }
 
-// The scripts.
-fn read_scripts(alloc: Global, tree: &Table) -> Result<ScriptConfig, ValueError>
-    ensures { GivesSeen (λ it. it) result (scripts_at (table_view tree.now)) }
+// What stands at a key of a tree.
+fn at_key(alloc: Global, tree: &MergedTree, key: &str) -> Result<Option<Value>, AllocError>
+    ensures { (top : Members) → IsListOf (list_of tree.now) (table top)
+        → IfOk result (λ it. option_map view it ≡ get_member key.now top) }
 {
-    deserialize_scripts(alloc, member(tree, "scripts"))
+    tree.value_at(alloc, &[key])
+}
+
+// The scripts.
+fn read_scripts(alloc: Global, tree: &MergedTree) -> Result<ScriptConfig, ValueError>
+    ensures { (top : Members) → IsListOf (list_of tree.now) (table top)
+        → GivesSeen (λ it. it) result (scripts_at top) }
+{
+    let given = at_key(alloc, tree, "scripts")?;
+    deserialize_scripts(alloc, given.as_ref())
 }
 
 // The groups of tests.
-fn read_groups(alloc: Global, tree: &Table) -> Result<Listing<NamedGroup>, ValueError>
-    ensures { GivesSeen (λ it. it) result (groups_at (table_view tree.now)) }
+fn read_groups(alloc: Global, tree: &MergedTree) -> Result<Listing<NamedGroup>, ValueError>
+    ensures { (top : Members) → IsListOf (list_of tree.now) (table top)
+        → GivesSeen (λ it. it) result (groups_at top) }
 {
-    deserialize_test_groups(alloc, member(tree, "test-groups"))
+    let given = at_key(alloc, tree, "test-groups")?;
+    deserialize_test_groups(alloc, given.as_ref())
 }
 
 // The directory of the store.
-fn read_store_dir(alloc: Global, tree: &Table) -> Result<Option<Text>, ValueError>
-    ensures { GivesSeen (λ it. it) result (store_dir_at (table_view tree.now)) }
+fn read_store_dir(alloc: Global, tree: &MergedTree) -> Result<Option<Text>, ValueError>
+    ensures { (top : Members) → IsListOf (list_of tree.now) (table top)
+        → GivesSeen (λ it. it) result (store_dir_at top) }
 {
-    deserialize_store_dir(alloc, member(tree, "store"))
+    let given = at_key(alloc, tree, "store")?;
+    deserialize_store_dir(alloc, given.as_ref())
 }
 
 // The profiles, by the bytes of their names.
-fn read_profiles(alloc: Global, tree: Tree) -> Result<Listing<NamedProfile>, ValueError>
-    ensures read { GivesSeen (map named_of) result (profiles_at (members_view tree)) }
+fn read_profiles(alloc: Global, tree: &MergedTree) -> Result<Listing<NamedProfile>, ValueError>
+    ensures read { (top : Members) → IsListOf (list_of tree.now) (table top)
+        → GivesSeen (map named_of) result (profiles_at top) }
     ensures rises { IfOk result (λ it. Rise (parents_of (map named_of it))) }
 {
-    let (mut left, known) = tree.into_parts();
-    match take_out(&mut left, "profile") {
+    let given = at_key(alloc, tree, "profile")?;
+    read_under(alloc, given)
+}
+
+// Those of what stands under `profile`.
+fn read_under(alloc: Global, given: Option<Value>) -> Result<Listing<NamedProfile>, ValueError>
+    ensures read { GivesSeen (map named_of) result
+        (under (codes "profile") (profiles_of (option_map view given))) }
+    ensures rises { IfOk result (λ it. Rise (parents_of (map named_of it))) }
+{
+    match given {
         None => Ok(Listing::new(alloc)),
-        Some(Value::Table(profiles)) => read_each(alloc, profiles, known),
+        Some(Value::Table(profiles)) => read_each(alloc, &profiles),
         Some(other) => Err(refused(alloc, &["profile"], Some(&other), "a table")),
     }
 }
 
-// The profiles of a table, of which some are known, the last first.
-fn read_each(
-    alloc: Global,
-    profiles: Table,
-    known: Vec<Box<NamedProfile>>,
-) -> Result<Listing<NamedProfile>, ValueError>
-    ensures read { AreKnown (table_view profiles) (unboxed known.items)
-        → GivesSeen (map named_of) result
-        (under (codes "profile") (profiles_in (table_view profiles))) }
-    ensures rises { AreKnown (table_view profiles) (unboxed known.items)
-        → IfOk result (λ it. Rise (parents_of (map named_of it))) }
+// The profiles of a table.
+fn read_each(alloc: Global, profiles: &Table) -> Result<Listing<NamedProfile>, ValueError>
+    ensures read { GivesSeen (map named_of) result
+        (under (codes "profile") (profiles_in (table_view profiles.now))) }
+    ensures rises { IfOk result (λ it. Rise (parents_of (map named_of it))) }
 {
-    let mut known = known;
     let mut found = Vec::with_capacity(alloc, profiles.len())?;
     for (name, given) in profiles {
-        let profile = next_profile(alloc, name.as_str(), &given, &mut known)?;
+        let profile = named_profile(alloc, name.as_str(), given)?;
         found.push(profile)?;
     }
     Ok(Listing::from(found))
-}
-
-// The profile of a name, by what stands there: the last that is known, if that has the name.
-fn next_profile(
-    alloc: Global,
-    name: &str,
-    value: &Value,
-    known: &mut Vec<Box<NamedProfile>>,
-) -> Result<NamedProfile, ValueError>
-    ensures profile { (profiles : Members) → AreKnown profiles (unboxed known.old.items)
-        → get_member name.now profiles ≡ Some (view value.now)
-        → GivesSeen named_of result (profile_at name.now (view value.now)) }
-    ensures left { (profiles : Members) → AreKnown profiles (unboxed known.old.items)
-        → AreKnown profiles (unboxed known.new.items) }
-{
-    if is_last(known.as_slice(), name) {
-        if let Some(profile) = known.pop() {
-            return Ok(Box::into_inner(profile));
-        }
-    }
-    named_profile(alloc, name, value)
-}
-
-// Whether the last of some profiles has a name.
-fn is_last(profiles: &[Box<NamedProfile>], name: &str) -> bool
-    ensures { (front : List Boxed) (last : Boxed) → profiles.now ≡ front ++ last ∷ []
-        → IsTrue result → last.value.name ≡ name.now }
-{
-    match profiles.last() {
-        Some(last) => last.name.as_str() == name,
-        None => false,
-    }
 }
 
 // The profile of a name, by what stands there.

@@ -24,10 +24,10 @@ use Rattle.nextest_config_resolution_sources.specs.Counting.{class_of, counting_
 use Rattle.nextest_config_resolution_sources.specs.declared.source.ConfigSource.{ConfigSource}
 use Rattle.nextest_config_resolution_sources.specs.declared.source.ConfigSourceOutcome.{ConfigSourceOutcome}
 use Rattle.nextest_config_resolution_sources.specs.declared.source.ConfigSourceOutcome.TheVariants as outcome
-use Rattle.nextest_config_resolution_merge.specs.Tree.{merge}
-use Rattle.nextest_config_resolution_merge.proofs.Tables.{over_none}
-use Rattle.nextest_config_resolution_merge.proofs.Keys.{equal_keys, key_cmp}
-use Rattle.nextest_config_resolution_merge.proofs.Standings.{get_merge, joint}
+use Rattle.nextest_config_resolution_tree.specs.Tree.{merge}
+use Rattle.nextest_config_resolution_tree.proofs.Tables.{over_none}
+use Rattle.nextest_config_resolution_tree.proofs.Keys.{equal_keys, key_cmp}
+use Rattle.nextest_config_resolution_tree.proofs.Standings.{get_merge, joint}
 use Rattle.nextest_config_resolution_values.specs.File.{Named, profiles_in}
 use Rattle.nextest_config_resolution_values.specs.Profile.{profile_of}
 use Rattle.nextest_config_resolution_values.specs.declared.profile_config.ProfileConfig.{ProfileConfig}

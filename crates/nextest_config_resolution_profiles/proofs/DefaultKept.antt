@@ -17,8 +17,8 @@ use Rattle.nextest_config_resolution_profiles.proofs.Kept.{kept_in}
 use Rattle.nextest_config_resolution_profiles.proofs.Tables.{IsRead, MayBeTable, below, config_parts, file_parts, key_kept, profiles_table, read_table, store_table, table_kept, tabled}
 use Rattle.nextest_config_resolution_sources.specs.declared.source.ConfigSource.{ConfigSource}
 use Rattle.nextest_config_resolution_profiles.specs.Agreeing.{inside}
-use Rattle.nextest_config_resolution_merge.specs.Tree.{merge}
-use Rattle.nextest_config_resolution_merge.proofs.Keys.{key_cmp}
+use Rattle.nextest_config_resolution_tree.specs.Tree.{merge}
+use Rattle.nextest_config_resolution_tree.proofs.Keys.{key_cmp}
 use Rattle.nextest_config_elements_deserialize.specs.Tables.{IsTable, MayBe}
 use Rattle.nextest_config_resolution_values.specs.Accepted.{IsBench, IsJunit, IsProfile}
 use Rattle.nextest_config_resolution_values.specs.File.{Named, profiles_in, profiles_of, store_dir_in, store_dir_of}

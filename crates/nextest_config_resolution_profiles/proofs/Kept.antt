@@ -23,9 +23,9 @@ use Rattle.nextest_config_resolution_sources.specs.Counting.{counting_sources}
 use Rattle.nextest_config_resolution_sources.specs.declared.source.ConfigSource.{ConfigSource}
 use Rattle.nextest_config_resolution_sources.specs.declared.source.ConfigSourceOutcome.{ConfigSourceOutcome}
 use Rattle.nextest_config_resolution_sources.specs.declared.source.ConfigSourceOutcome.TheVariants as outcome
-use Rattle.nextest_config_resolution_merge.specs.Tree.{keys, over, merge}
-use Rattle.nextest_config_resolution_merge.proofs.Keys.{key_cmp, equal_keys}
-use Rattle.nextest_config_resolution_merge.proofs.Standings.{get_merge, joint}
+use Rattle.nextest_config_resolution_tree.specs.Tree.{keys, over, merge}
+use Rattle.nextest_config_resolution_tree.proofs.Keys.{key_cmp, equal_keys}
+use Rattle.nextest_config_resolution_tree.proofs.Standings.{get_merge, joint}
 use Rattle.nextest_config_resolution_values.specs.File.{profiles_in, profiles_of, store_dir_of}
 use Rattle.nextest_config_elements_versions.specs.declared.feature.FeatureSet.{FeatureSet}
 

@@ -14,8 +14,8 @@ use Rattle.nextest_config_resolution_scripts.specs.declared.script_rule.ScriptRu
 use Rattle.nextest_config_resolution_overrides.specs.declared.groups.NamedGroup.{NamedGroup}
 use Rattle.nextest_config_resolution_overrides.specs.declared.override_config.OverrideConfig.{OverrideConfig}
 use Rattle.nextest_config_resolution_profiles.specs.Agreeing.{inside}
-use Rattle.nextest_config_resolution_merge.specs.Tree.{merge}
-use Rattle.nextest_config_resolution_merge.proofs.Standings.{joint, get_merge}
+use Rattle.nextest_config_resolution_tree.specs.Tree.{merge}
+use Rattle.nextest_config_resolution_tree.proofs.Standings.{joint, get_merge}
 use Rattle.nextest_config_elements_deserialize.specs.Tables.{IsTable}
 use Rattle.nextest_config_resolution_values.specs.File.{Named, profiles_at, profiles_in, profiles_of, store_dir_at, store_dir_in, store_dir_of}
 use Rattle.nextest_config_resolution_values.specs.Profile.{profile_in, profile_of}

@@ -2,7 +2,7 @@
 use Rattle.std.specs.Prelude.{ℕ, List, fold}
 use denote.Ref.{Bor}
 use Rattle.toml.specs.Data.{Data, string, integer, boolean, array, no_items, Members, no_members}
-use Rattle.nextest_config_resolution_merge.specs.Tree.{with_member}
+use Rattle.nextest_config_resolution_tree.specs.Tree.{with_member}
 use Rattle.nextest_config_resolution_profiles.specs.declared.rows.Plain.{Plain}
 use Rattle.nextest_config_resolution_profiles.specs.declared.rows.Plain.TheVariants.{Text, Number, Flag, NoItems}
 

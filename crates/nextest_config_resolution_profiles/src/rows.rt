@@ -2,7 +2,7 @@
 ghost use Rattle.std.specs.Prelude.{◌≡◌, IfOk, OnOk};
 ghost use Rattle.toml.specs.Data.{table};
 ghost use Rattle.toml.specs.View.{table_view, view};
-ghost use Rattle.nextest_config_resolution_merge.specs.Tree.{with_member};
+ghost use Rattle.nextest_config_resolution_tree.specs.Tree.{with_member};
 ghost use Rattle.nextest_config_resolution_profiles.specs.Rows.{data_of, members_in};
 
 use std::alloc::{AllocError, Global};

@@ -5,8 +5,8 @@ use Rattle.std.specs.Prelude.{option_and_then}
 use Rattle.std.specs.Ordering.{match_ordering}
 use Rattle.toml.specs.Data.{Data, string, integer, float, boolean, datetime, array, table, Members, no_members, member, get, get_member}
 use Rattle.nextest_config_elements_toml.specs.Reading.{Path}
-use Rattle.nextest_config_resolution_merge.proofs.Keys.{equal_keys, key_cmp, same_key, turned, turned_back}
-use Rattle.nextest_config_resolution_merge.specs.Tree.{get_path}
+use Rattle.nextest_config_resolution_tree.proofs.Keys.{equal_keys, key_cmp, same_key, turned, turned_back}
+use Rattle.nextest_config_resolution_tree.specs.Tree.{get_path}
 use Rattle.nextest_config_resolution_tree.specs.Ends.{AreSorted, End, IsSorted, SortedAt, behind, ends, ends_at, members_ends}
 use Rattle.nextest_config_resolution_tree.specs.Laws.{ReadAtPath}
 use Rattle.nextest_config_resolution_tree.specs.Runs.{after, below, below_path}
@@ -64,6 +64,13 @@ sorted_at key (float number) sorted = tt
 sorted_at key (boolean truth) sorted = tt
 sorted_at key (datetime time) sorted = tt
 sorted_at key (array items) sorted = tt
+
+pub sorted_path : (path : Path) (tree : Data) → IsSorted tree → SortedAt (get_path path tree)
+sorted_path [] tree sorted = sorted
+sorted_path (key ∷ path) tree sorted = by_found (get key tree) (sorted_at key tree sorted) (λ value. sorted_path path value) where
+  by_found : (found : Option Data) → SortedAt found → ((value : Data) → IsSorted value → SortedAt (get_path path value)) → SortedAt (option_and_then (get_path path) found)
+  by_found None sorted deeper = tt
+  by_found (Some value) sorted deeper = deeper value sorted
 
 none_below : (path : Path) → below_path path [] ≡ []
 none_below [] = refl

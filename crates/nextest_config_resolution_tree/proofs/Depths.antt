@@ -7,7 +7,7 @@ use Rattle.std.specs.Map.{keys_of}
 use Rattle.std.specs.Ordering.{match_ordering}
 use Rattle.std.specs.String.{string_cmp}
 use Rattle.toml.specs.Data.{Data, string, integer, float, boolean, datetime, array, table, Members, no_members, member, get_member, depth, members_depth}
-use Rattle.nextest_config_resolution_merge.proofs.Keys.{equal_keys, key_cmp, same_key}
+use Rattle.nextest_config_resolution_tree.proofs.Keys.{equal_keys, key_cmp, same_key}
 use Rattle.nextest_config_resolution_tree.specs.Gathered.{given_at, layers_of, leading, member_at, values_at}
 use Rattle.nextest_config_resolution_tree.proofs.Gathered.{Entry}
 

@@ -6,9 +6,8 @@ use Rattle.std.specs.Bool.{⊤}
 use Rattle.std.specs.List.{list_all}
 use Rattle.toml.specs.Data.{Data, string, integer, float, boolean, datetime, array, table, table, Members, no_members, member}
 use Rattle.nextest_config_elements_toml.specs.Reading.{Path}
-use Rattle.nextest_config_resolution_merge.proofs.Keys.{IsBefore, key_cmp, same_key}
-use Rattle.nextest_config_resolution_tree.specs.Ends.{AreSorted, End, IsSorted, along, behind, ends, is_before, members_ends, rises}
-use Rattle.nextest_config_resolution_tree.specs.Ends as ordered
+use Rattle.nextest_config_resolution_tree.proofs.Keys.{key_cmp, same_key}
+use Rattle.nextest_config_resolution_tree.specs.Ends.{AreSorted, End, IsBefore, IsSorted, along, behind, ends, is_before, members_ends, rises}
 use Rattle.nextest_config_resolution_tree.specs.Gathered.{members_of, merged_layers}
 use Rattle.nextest_config_resolution_tree.proofs.Gathered.{Entry}
 use Rattle.nextest_config_resolution_tree.proofs.Rising.{Rises}
@@ -80,10 +79,6 @@ rises_key key (end ∷ front) more rise others after =
     rw (before_below key end.0 front more here after) (rises_key key front more rest others after)
 
 -- the ends of a tree whose keys rise rise
-as_before : (key : List ℕ) (members : Members) → ordered.IsBefore key members → IsBefore key members
-as_before key no_members before = tt
-as_before key (member other value more) before = (before.0, as_before key more before.1)
-
 mutual
   pub rises_tree : (tree : Data) → IsSorted tree → rises (ends tree) ≡ true
   rises_tree (table (member key value more)) sorted = rises_members (member key value more) sorted
@@ -98,7 +93,7 @@ mutual
   rises_members : (members : Members) → AreSorted members → rises (members_ends members) ≡ true
   rises_members no_members sorted = refl
   rises_members (member key value more) sorted =
-      rises_key key (ends value) (members_ends more) (rises_tree value sorted.1) (rises_members more sorted.2) (after_key key more (as_before key more sorted.0))
+      rises_key key (ends value) (members_ends more) (rises_tree value sorted.1) (rises_members more sorted.2) (after_key key more sorted.0)
 
 -- members are sorted where their keys rise and each is
 abbrev pub EachSorted : List Entry → Type 0
@@ -109,10 +104,6 @@ pub each_more : (done : List Entry) (entry : Entry) → EachSorted done → IsSo
 each_more [] entry each here = (here, tt)
 each_more (first ∷ done) entry each here = (each.0, each_more done entry each.1 here)
 
-before_as : (key : List ℕ) (members : Members) → IsBefore key members → ordered.IsBefore key members
-before_as key no_members before = tt
-before_as key (member other value more) before = (before.0, before_as key more before.1)
-
 pub members_sorted : (entries : List Entry) → Rises (members_of entries) → EachSorted entries → AreSorted (members_of entries)
 members_sorted [] rise each = tt
-members_sorted (entry ∷ entries) rise each = (before_as (string_bytes entry.0) (members_of entries) rise.0, each.0, members_sorted entries rise.1 each.1)
+members_sorted (entry ∷ entries) rise each = (rise.0, each.0, members_sorted entries rise.1 each.1)

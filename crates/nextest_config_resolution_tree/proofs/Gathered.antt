@@ -7,11 +7,12 @@ use Rattle.std.specs.Ordering.{match_ordering}
 use Rattle.std.specs.String.{string_cmp}
 use Rattle.toml.specs.Data.{Data, string, integer, float, boolean, datetime, array, table, Members, no_members, get_member}
 use Rattle.toml.specs.View.{members_view, view}
-use Rattle.nextest_config_resolution_merge.specs.Merged.{merge_of_files}
-use Rattle.nextest_config_resolution_merge.specs.Tree.{over, merge}
-use Rattle.nextest_config_resolution_merge.proofs.Keys.{IsBefore, key_cmp, equal_keys, get_before, turned, turned_back}
-use Rattle.nextest_config_resolution_merge.proofs.Standings.{get_merge, joint}
-use Rattle.nextest_config_resolution_merge.proofs.Tables.{Pair, over_none}
+use Rattle.nextest_config_resolution_tree.specs.Merged.{merge_of_files}
+use Rattle.nextest_config_resolution_tree.specs.Tree.{over, merge}
+use Rattle.nextest_config_resolution_tree.proofs.Keys.{key_cmp, equal_keys, get_before, turned, turned_back}
+use Rattle.nextest_config_resolution_tree.proofs.Standings.{get_merge, joint}
+use Rattle.nextest_config_resolution_tree.proofs.Tables.{Pair, over_none}
+use Rattle.nextest_config_resolution_tree.specs.Ends.{IsBefore}
 use Rattle.nextest_config_resolution_tree.specs.Gathered.{given_at, layers_of, leading, member_at, members_of, merged_layers, merged_tables, values_at}
 use Rattle.nextest_config_resolution_tree.specs.declared.gathering.Layers.{Layers}
 

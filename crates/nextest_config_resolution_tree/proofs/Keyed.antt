@@ -8,7 +8,7 @@ use Rattle.std.specs.List.{list_all}
 use Rattle.std.specs.Ordering.{match_ordering, ordering_reverse}
 use Rattle.toml.specs.Data.{Data}
 use Rattle.nextest_config_elements_toml.specs.Reading.{Path}
-use Rattle.nextest_config_resolution_merge.proofs.Keys.{equal_keys, key_cmp, same_key, turned, turned_back}
+use Rattle.nextest_config_resolution_tree.proofs.Keys.{equal_keys, key_cmp, same_key, turned, turned_back}
 use Rattle.nextest_config_resolution_tree.specs.Ends.{End, behind, cut, ends_of, is_before, rises}
 use Rattle.nextest_config_resolution_tree.specs.Runs.{after, ahead, below, first_key, within}
 use Rattle.nextest_config_resolution_tree.specs.declared.entry.Entry.{Entry}

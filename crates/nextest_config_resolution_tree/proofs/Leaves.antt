@@ -3,8 +3,8 @@ use Rattle.std.proofs.Common.{◌≡◌, List, [], ◌∷◌, Some, String, Glob
 use Rattle.toml.specs.Data.{Data}
 use Rattle.toml.specs.View.{view}
 use Rattle.toml.specs.declared.value.Value.{Value, Table as TableValue, the_lemmas}
-use Rattle.nextest_config_resolution_merge.specs.Merged.{merge_of_files}
-use Rattle.nextest_config_resolution_merge.specs.Tree.{over}
+use Rattle.nextest_config_resolution_tree.specs.Merged.{merge_of_files}
+use Rattle.nextest_config_resolution_tree.specs.Tree.{over}
 use Rattle.nextest_config_resolution_tree.specs.Ends.{IsSorted, ends}
 
 over_leaf : (value : Value) (below : Data) → ((it : BTreeMap (String Global) Value) → value ≡ TableValue it → ⊥) → over (view value) (Some below) ≡ view value

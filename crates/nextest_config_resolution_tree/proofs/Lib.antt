@@ -1,3 +1,6 @@
+pub mod Keys
+pub mod Tables
+pub mod Standings
 mod Gathered
 mod Rising
 mod Depths

@@ -5,8 +5,8 @@ use Rattle.std.proofs.lemmas.List.{length-append, length-map}
 use Rattle.std.specs.List.{list_all}
 use Rattle.toml.specs.Data.{Data, string, integer, float, boolean, datetime, array, table, Members, no_members, member}
 use Rattle.nextest_config_elements_toml.specs.Reading.{Path}
-use Rattle.nextest_config_resolution_merge.proofs.Keys.{key_cmp, same_key, turned}
-use Rattle.nextest_config_resolution_merge.specs.Tree.{with_member}
+use Rattle.nextest_config_resolution_tree.proofs.Keys.{key_cmp, same_key, turned}
+use Rattle.nextest_config_resolution_tree.specs.Tree.{with_member}
 use Rattle.nextest_config_resolution_tree.specs.Ends.{AreSorted, End, IsBefore, IsSorted, behind, ends, ends_at, members_ends}
 use Rattle.nextest_config_resolution_tree.specs.Runs.{HasNoKey, PartsKey, after, leaf_of}
 

@@ -8,9 +8,10 @@ use Rattle.std.specs.String.{string_cmp}
 use Rattle.std.specs.Ordering.{match_ordering}
 use Rattle.toml.specs.Data.{Data, Members, no_members, member, get_member}
 use Rattle.toml.specs.View.{members_view}
-use Rattle.nextest_config_resolution_merge.specs.Tree.{merge, over, with_member}
-use Rattle.nextest_config_resolution_merge.proofs.Keys.{IsBefore, before_less, equal_keys, get_before, key_cmp, same_key, turned_back}
-use Rattle.nextest_config_resolution_merge.proofs.Tables.{Pair, before_keys}
+use Rattle.nextest_config_resolution_tree.specs.Tree.{merge, over, with_member}
+use Rattle.nextest_config_resolution_tree.proofs.Keys.{before_less, equal_keys, get_before, key_cmp, same_key, turned_back}
+use Rattle.nextest_config_resolution_tree.proofs.Tables.{Pair, before_keys}
+use Rattle.nextest_config_resolution_tree.specs.Ends.{IsBefore}
 use Rattle.nextest_config_resolution_tree.specs.Gathered.{members_of}
 use Rattle.nextest_config_resolution_tree.proofs.Gathered.{Entry, joined}
 

@@ -70,3 +70,8 @@ is_before (key ∷ path) (other ∷ way) = match_ordering (slice_cmp nat_cmp key
 abbrev pub rises : List End → Bool
 rises [] = true
 rises (end ∷ more) = list_all (λ next. is_before end.0 next.0) more && rises more
+
+-- a list is what a tree ends in, of which the keys of each table rise
+pub record IsListOf (list : List End) (tree : Data) : Type 0 where
+  pub ends : list ≡ ends tree
+  pub sorted : IsSorted tree

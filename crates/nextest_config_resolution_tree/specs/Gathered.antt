@@ -10,7 +10,7 @@ use Rattle.std.specs.Ordering.{nat_cmp, match_ordering}
 use Rattle.std.specs.Cmp.Lexicographic.{slice_cmp}
 use Rattle.toml.specs.Data.{Data, table, Members, no_members, member, get_member}
 use Rattle.toml.specs.View.{view}
-use Rattle.nextest_config_resolution_merge.specs.Merged.{merge_of_files}
+use Rattle.nextest_config_resolution_tree.specs.Merged.{merge_of_files}
 use Rattle.nextest_config_resolution_tree.specs.declared.gathering.Layers.{Layers}
 
 -- tables, the highest first, each over the next ones; the empty one, where there are none

@@ -1,3 +1,6 @@
+pub mod Keys
+pub mod Tree
+pub mod Merged
 pub mod Ends
 pub mod Gathered
 pub mod Runs

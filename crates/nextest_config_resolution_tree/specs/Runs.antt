@@ -25,23 +25,33 @@ below_path [] run = run
 below_path (key ∷ path) run = below_path path (below key run)
 
 -- what stands there alone
-abbrev pub alone : Path → Data → Option Data
-alone [] given = Some given
-alone (key ∷ path) given = None
+abbrev pub alone_by : Option (List ℕ) → Data → Option Data
+alone_by None given = Some given
+alone_by (Some key) given = None
+
+abbrev pub alone : End → Option Data
+alone end = alone_by (first_key end) end.1
 
 abbrev pub leaf_of : List End → Option Data
 leaf_of [] = None
-leaf_of (end ∷ []) = alone end.0 end.1
+leaf_of (end ∷ []) = alone end
 leaf_of (end ∷ next ∷ more) = None
 
--- an end comes before all that stands at a key, stands at the key or below it, or comes after that
+-- an end comes before all that stands at a key, stands at the key or below it, or comes after that,
+-- by the first key of its path
+abbrev pub ahead_by : List ℕ → Option (List ℕ) → Bool
+ahead_by key None = true
+ahead_by key (Some first) = match_ordering (slice_cmp nat_cmp first key) true false false
+
 abbrev pub ahead : List ℕ → End → Bool
-ahead key ([], given) = true
-ahead key (first ∷ path, given) = match_ordering (slice_cmp nat_cmp first key) true false false
+ahead key end = ahead_by key (first_key end)
+
+abbrev pub within_by : List ℕ → Option (List ℕ) → Bool
+within_by key None = false
+within_by key (Some first) = match_ordering (slice_cmp nat_cmp first key) false true false
 
 abbrev pub within : List ℕ → End → Bool
-within key ([], given) = false
-within key (first ∷ path, given) = match_ordering (slice_cmp nat_cmp first key) false true false
+within key end = within_by key (first_key end)
 
 abbrev pub after : List ℕ → End → Bool
 after key end = not (ahead key end) && not (within key end)

@@ -12,9 +12,11 @@ mod gathering;
 pub mod laws;
 mod merged_tree;
 mod merging;
+mod path;
 mod rebuilding;
 mod run;
 
 pub use entry::Entry;
 pub use merged_tree::MergedTree;
+pub use path::SharedPath;
 pub use run::Run;

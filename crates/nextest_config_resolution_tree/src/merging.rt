@@ -6,7 +6,7 @@ ghost use Rattle.nextest_config_resolution_tree.specs.Gathered.{leading, members
 
 use crate::entry::Entry;
 use crate::gathering::{Layers, gathered};
-use nextest_text::{Listing, Text};
+use crate::path::{SharedPath, TablePath};
 use std::alloc::{AllocError, Global};
 use std::collections::BTreeMap;
 use toml::{Table, Value};
@@ -16,7 +16,7 @@ use toml::{Table, Value};
 pub(crate) fn push_tables(
     alloc: Global,
     entries: &mut Vec<Entry>,
-    path: Listing<Text>,
+    path: SharedPath,
     tables: Vec<Table>,
 ) -> Result<(), AllocError>
     ensures ends { OnOk result (ends_of 0 entries.new.items ≡ ends_of 0 entries.old.items
@@ -27,6 +27,7 @@ pub(crate) fn push_tables(
     if members.len() == 0 {
         return push_entry(entries, path, Value::Table(Table::new(alloc)));
     }
+    let path = path.into_table(alloc)?;
     push_members(alloc, entries, &path, members)
 }
 
@@ -35,7 +36,7 @@ pub(crate) fn push_tables(
 fn push_members(
     alloc: Global,
     entries: &mut Vec<Entry>,
-    path: &Listing<Text>,
+    path: &TablePath,
     members: BTreeMap<String, Layers>,
 ) -> Result<(), AllocError>
     ensures ends { OnOk result (ends_of 0 entries.new.items ≡ ends_of 0 entries.old.items
@@ -43,7 +44,7 @@ fn push_members(
     ensures sorted { OnOk result (AreSorted (members_of members.entries)) }
 {
     for (key, layers) in members {
-        let path = longer(path, Text::from(key))?;
+        let path = path.child(key)?;
         push_layers(alloc, entries, path, layers)?;
     }
     Ok(())
@@ -54,7 +55,7 @@ fn push_members(
 fn push_layers(
     alloc: Global,
     entries: &mut Vec<Entry>,
-    path: Listing<Text>,
+    path: SharedPath,
     layers: Layers,
 ) -> Result<(), AllocError>
     ensures ends { OnOk result (ends_of 0 entries.new.items ≡ ends_of 0 entries.old.items
@@ -88,19 +89,10 @@ fn with_shown(alloc: Global, highest: Table, lower: Vec<Value>) -> Result<Vec<Ta
 }
 
 // Adds an entry.
-fn push_entry(entries: &mut Vec<Entry>, path: Listing<Text>, value: Value) -> Result<(), AllocError>
+fn push_entry(entries: &mut Vec<Entry>, path: SharedPath, value: Value) -> Result<(), AllocError>
     ensures { OnOk result (ends_of 0 entries.new.items
         ≡ ends_of 0 entries.old.items ++ (path, view value) ∷ []) }
 {
     entries.push(Entry { path, value })?;
     Ok(())
-}
-
-// A path with one more key.
-fn longer(path: &Listing<Text>, key: Text) -> Result<Listing<Text>, AllocError>
-    ensures { IfOk result (λ it. it ≡ path.now ++ key ∷ []) }
-{
-    let mut longer = path.clone()?;
-    longer.push(key)?;
-    Ok(longer)
 }

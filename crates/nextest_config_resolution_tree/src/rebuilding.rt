@@ -2,7 +2,7 @@
 ghost use Rattle.std.specs.Prelude.{◌≡◌, Option, option_map, IfOk, OnOk};
 ghost use Rattle.toml.specs.Data.{Data, Members};
 ghost use Rattle.toml.specs.View.{view, table_view};
-ghost use Rattle.nextest_config_resolution_merge.specs.Tree.{with_member};
+ghost use Rattle.nextest_config_resolution_tree.specs.Tree.{with_member};
 ghost use Rattle.nextest_config_resolution_tree.specs.Ends.{AreSorted, IsSorted, SortedAt, ends, ends_at, members_ends};
 ghost use Rattle.nextest_config_resolution_tree.specs.RunOf.{run_of};
 

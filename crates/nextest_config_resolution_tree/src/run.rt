@@ -120,18 +120,14 @@ fn key_at<'t>(entry: &'t Entry, depth: usize) -> Option<&'t str>
     ensures key { option_map (λ it. it.now) result ≡ first_key (cut depth entry.now) }
     ensures fits { IfSome result (λ _. depth + 1 < 2 ^ 64) }
 {
-    match entry.path.as_slice().get(depth) {
-        None => None,
-        Some(key) => Some(key.as_str()),
-    }
+    entry.path.get(depth)
 }
 
 // The value of an entry whose path ends there.
 fn alone<'t>(entry: &'t Entry, depth: usize) -> Option<&'t Value>
-    ensures { option_map (λ it. view it.now) result
-        ≡ alone (cut depth entry.now).0 (cut depth entry.now).1 }
+    ensures { option_map (λ it. view it.now) result ≡ alone (cut depth entry.now) }
 {
-    match entry.path.as_slice().get(depth) {
+    match key_at(entry, depth) {
         None => Some(&entry.value),
         Some(_) => None,
     }
@@ -195,9 +191,9 @@ fn parted<'t>(entries: &'t [Entry], depth: usize, key: &str) -> (&'t [Entry], &'
 fn is_ahead(entry: &Entry, depth: usize, key: &str) -> bool
     ensures { result ≡ ahead key.now (cut depth entry.now) }
 {
-    match entry.path.as_slice().get(depth) {
+    match key_at(entry, depth) {
         None => true,
-        Some(first) => match first.as_str().cmp(key) {
+        Some(first) => match first.cmp(key) {
             Ordering::Less => true,
             Ordering::Equal | Ordering::Greater => false,
         },
@@ -208,9 +204,9 @@ fn is_ahead(entry: &Entry, depth: usize, key: &str) -> bool
 fn is_within(entry: &Entry, depth: usize, key: &str) -> bool
     ensures { result ≡ within key.now (cut depth entry.now) }
 {
-    match entry.path.as_slice().get(depth) {
+    match key_at(entry, depth) {
         None => false,
-        Some(first) => match first.as_str().cmp(key) {
+        Some(first) => match first.cmp(key) {
             Ordering::Equal => true,
             Ordering::Less | Ordering::Greater => false,
         },

@@ -1,7 +1,7 @@
 use Rattle.std.proofs.Common.{◌∙◌, ap}
 use Rattle.toml.specs.View.{view, table_view, members_view}
-use Rattle.nextest_config_resolution_merge.specs.Tree.{with_member}
-use Rattle.nextest_config_resolution_merge.proofs.Tables.{set_entry}
+use Rattle.nextest_config_resolution_tree.specs.Tree.{with_member}
+use Rattle.nextest_config_resolution_tree.proofs.Tables.{set_entry}
 use Rattle.nextest_config_resolution_profiles.proofs.rows.put.Goals as goal
 
 pub returns : goal.returns

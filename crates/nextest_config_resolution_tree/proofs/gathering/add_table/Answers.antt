@@ -4,8 +4,8 @@ use Rattle.std.specs.Map.{keys_of}
 use Rattle.std.specs.String.{string_cmp}
 use Rattle.toml.specs.Data.{Data}
 use Rattle.toml.specs.View.{members_view, view}
-use Rattle.nextest_config_resolution_merge.proofs.Keys.{key_cmp}
-use Rattle.nextest_config_resolution_merge.proofs.Tables.{Pair, before_keys}
+use Rattle.nextest_config_resolution_tree.proofs.Keys.{key_cmp}
+use Rattle.nextest_config_resolution_tree.proofs.Tables.{Pair, before_keys}
 use Rattle.nextest_config_resolution_tree.specs.Gathered.{given_at, member_at}
 use Rattle.nextest_config_resolution_tree.proofs.Gathered.{member_first, one}
 use Rattle.nextest_config_resolution_tree.proofs.gathering.add_table.Goals as goal

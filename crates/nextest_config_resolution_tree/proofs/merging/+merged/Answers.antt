@@ -6,8 +6,8 @@ use Rattle.toml.specs.View.{members_view, table_view, view}
 use Rattle.toml.specs.declared.value.Value.{Value, Table as TableValue}
 use Rattle.toml.proofs.Views.{view-Table}
 use Rattle.nextest_config_elements_toml.specs.Reading.{Path}
-use Rattle.nextest_config_resolution_merge.specs.Merged.{merge_of_files}
-use Rattle.nextest_config_resolution_merge.proofs.Tables.{Pair}
+use Rattle.nextest_config_resolution_tree.specs.Merged.{merge_of_files}
+use Rattle.nextest_config_resolution_tree.proofs.Tables.{Pair}
 use Rattle.nextest_config_resolution_tree.specs.Ends.{End, IsSorted, along, ends, ends_of}
 use Rattle.nextest_config_resolution_tree.specs.Gathered.{leading, members_of, merged_layers, merged_tables}
 use Rattle.nextest_config_resolution_tree.proofs.Depths.{depths, entries_depth, entries_within, entry_within, leading_depth, tables_depth, values_depth}
@@ -39,7 +39,7 @@ push_members-loop-key-preserved t c =
     let entry : Entry = (c.in-Some.key, c.in-Some.layers) in
     let left : List Entry = c.next.new.self in
     let all : c.args.members.entries ≡ done ++ entry ∷ left = c.loop-key.invariant.1 ∙ ap (λ (it : List Entry). done ++ it) c.in-Some.ensures.steps in
-    let path = c.in_ok-path.ensures ∙ ap (λ (key : List ℕ). c.args.path.now ++ key ∷ []) c.from.ensures in
+    let path = c.in_ok-path.ensures in
     let these = ends (merged_layers entry.1) in (
       done ++ entry ∷ [],
       all ∙ sym (append_assoc done (entry ∷ []) left),
@@ -106,8 +106,10 @@ push_tables-returns-clause-ends t c =
     let entries = c.in_ok-members.members.entries in
     let all = tables_are c.args.tables.items entries c.len.ensures.ordered c.in_ok-members.ensures.rise c.in_ok-members.ensures.gives in
     let some : length entries ≡ 0 → ⊥ = λ none. c.if-len-eq0.false (c.len.ensures.len ∙ none) in
-    subst (λ (it : List End). OnOk c.push_members.result (ends_of 0 c.push_members.new.entries.items ≡ ends_of 0 c.args.entries.now.items ++ map (along c.args.path) it))
-    (sym (ap ends all ∙ table_ends entries some)) c.push_members.ensures.ends
+    subst (λ (way : Path). OnOk c.push_members.result (ends_of 0 c.push_members.new.entries.items ≡ ends_of 0 c.args.entries.now.items ++ map (along way) (ends (merged_tables (map table_view c.args.tables.items)))))
+    c.in_ok-path.ensures
+    (subst (λ (it : List End). OnOk c.push_members.result (ends_of 0 c.push_members.new.entries.items ≡ ends_of 0 c.args.entries.now.items ++ map (along c.in_ok-path.path) it))
+    (sym (ap ends all ∙ table_ends entries some)) c.push_members.ensures.ends)
 
 pub push_tables-returns-clause-sorted : goal.push_tables-returns-clause-sorted
 push_tables-returns-clause-sorted t c =

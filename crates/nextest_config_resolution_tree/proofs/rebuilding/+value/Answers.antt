@@ -3,8 +3,8 @@ use Rattle.std.proofs.lemmas.List.{length-append, length-map}
 use Rattle.toml.specs.Data.{Data}
 use Rattle.toml.specs.View.{members_view, table_view, view}
 use Rattle.toml.specs.declared.value.Value.{Value}
-use Rattle.nextest_config_resolution_merge.specs.Tree.{with_member}
-use Rattle.nextest_config_resolution_merge.proofs.Tables.{Pair, set_entry}
+use Rattle.nextest_config_resolution_tree.specs.Tree.{with_member}
+use Rattle.nextest_config_resolution_tree.proofs.Tables.{Pair, set_entry}
 use Rattle.nextest_config_resolution_tree.specs.Ends.{End, behind}
 use Rattle.nextest_config_resolution_tree.specs.RunOf.{run_of}
 use Rattle.nextest_config_resolution_tree.proofs.Rebuilt.{leaf_there, next_member, none_left, none_there, weight, weight_append, weight_behind}

@@ -9,12 +9,15 @@ pub invariant_of-result : goal.invariant_of-result
 invariant_of-result c =
     let all = ends (merged_tables (map table_view c.args.files.items)) in
     let is : ends_of 0 c.push_tables.new.entries.items ≡ all =
-    c.in_ok-push_tables.ensures.ends ∙ ap (λ (items : List _). ends_of 0 items ++ map (along c.new.result) all) c.new-entries.ensures.items
-    ∙ ap (λ path. map (along path) all) c.new.ensures ∙ along_none all in
+    c.in_ok-push_tables.ensures.ends ∙ ap (λ (items : List _). ends_of 0 items ++ map (along c.in_ok-root.field-0) all) c.new-entries.ensures.items
+    ∙ ap (λ path. map (along path) all) c.in_ok-root.ensures ∙ along_none all in
     record { rises = subst (λ (it : List End). rises it ≡ true) (sym is) (rises_tree (merged_tables (map table_view c.args.files.items)) c.in_ok-push_tables.ensures.sorted) }
 
-pub returns-clause-ends : goal.returns-clause-ends
-returns-clause-ends c =
-    let all = ends (merged_tables (map table_view c.args.files.items)) in
-    c.in_ok-push_tables.ensures.ends ∙ ap (λ (items : List _). ends_of 0 items ++ map (along c.new.result) all) c.new-entries.ensures.items
-    ∙ ap (λ path. map (along path) all) c.new.ensures ∙ along_none all
+pub returns : goal.returns
+returns c =
+    let all = ends (merged_tables (map table_view c.args.files.items)) in record {
+      ends =
+          c.in_ok-push_tables.ensures.ends ∙ ap (λ (items : List _). ends_of 0 items ++ map (along c.in_ok-root.field-0) all) c.new-entries.ensures.items
+          ∙ ap (λ path. map (along path) all) c.in_ok-root.ensures ∙ along_none all;
+      sorted = c.in_ok-push_tables.ensures.sorted;
+    }

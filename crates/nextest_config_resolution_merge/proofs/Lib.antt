@@ -1,3 +1,0 @@
-pub mod Keys
-pub mod Tables
-pub mod Standings

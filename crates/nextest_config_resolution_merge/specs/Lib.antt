@@ -1,4 +1,0 @@
-pub mod Laws
-pub mod Merged
-pub mod Tree
-pub mod Showing
