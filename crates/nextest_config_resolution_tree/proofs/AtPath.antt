@@ -1,6 +1,5 @@
 -- What stands at a path, in the list of what a tree ends in.
-use Rattle.std.proofs.Common.{◌≡◌, ℕ, true, List, [], ◌∷◌, ◌++◌, map, Option, None, Some, refl, sym, ap, ◌∙◌, subst, append-nil, Ordering, Less, Equal, Greater}
-use Rattle.std.specs.List.{list_all}
+use Rattle.std.proofs.Common.{◌≡◌, ℕ, List, [], ◌∷◌, ◌++◌, map, Option, None, Some, refl, sym, ap, ◌∙◌, append-nil, Ordering, Less, Equal, Greater}
 use Rattle.std.specs.Prelude.{option_and_then}
 use Rattle.std.specs.Ordering.{match_ordering}
 use Rattle.toml.specs.Data.{Data, string, integer, float, boolean, datetime, array, table, Members, no_members, member, get, get_member}
@@ -9,7 +8,7 @@ use Rattle.nextest_config_resolution_tree.proofs.Keys.{equal_keys, key_cmp, same
 use Rattle.nextest_config_resolution_tree.specs.Tree.{get_path}
 use Rattle.nextest_config_resolution_tree.specs.Ends.{AreSorted, End, IsSorted, SortedAt, behind, ends, ends_at, members_ends}
 use Rattle.nextest_config_resolution_tree.specs.Laws.{ReadAtPath}
-use Rattle.nextest_config_resolution_tree.specs.Runs.{after, below, below_path}
+use Rattle.nextest_config_resolution_tree.specs.Runs.{below, below_path}
 use Rattle.nextest_config_resolution_tree.proofs.Keyed.{below_after}
 use Rattle.nextest_config_resolution_tree.proofs.Rebuilt.{later_members}
 

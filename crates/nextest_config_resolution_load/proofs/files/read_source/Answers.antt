@@ -1,4 +1,4 @@
-use Rattle.std.proofs.Common.{◌≡◌, Result, Ok, Err, OnOk, sym, ap, subst}
+use Rattle.std.proofs.Common.{Result, Ok, Err, OnOk, sym, ap, subst}
 use Rattle.nextest_config_resolution_load.specs.Checks.{document_of}
 use Rattle.nextest_config_resolution_load.specs.Warn.{AreKept, warnings_at}
 use Rattle.nextest_config_resolution_load.proofs.Sources.{kept_none}

@@ -6,7 +6,7 @@ use Rattle.nextest_config_resolution_tree.specs.Ends.{End, IsListOf}
 use Rattle.nextest_config_resolution_tree.specs.RunOf.{list_of}
 use Rattle.nextest_config_resolution_load.specs.Checks.{bad_merged, config_in, file_of, file_with_setup, members_of, merged_in, source_checks, tree_of_files, value_checks}
 use Rattle.nextest_config_resolution_load.specs.Load.{IsKept}
-use Rattle.nextest_config_resolution_load.specs.Reading.{AreReadSources, AreRulesOf, early_checks, read_as}
+use Rattle.nextest_config_resolution_load.specs.Reading.{AreReadSources, AreRulesOf, early_checks}
 use Rattle.nextest_config_resolution_load.specs.Refusing.{RefusesFor}
 use Rattle.nextest_config_resolution_load.specs.Warn.{AreKept, warnings_for}
 use Rattle.nextest_config_resolution_load.proofs.Passing.{kept_both, passes_on, refuses_before, refuses_behind}

@@ -1,4 +1,4 @@
-use Rattle.std.proofs.Common.{◌≡◌, ℕ, ◌-◌, ◌≤◌, List, [], ◌∷◌, ◌++◌, length, map, true, sym, ap, ◌∙◌, subst, append_assoc, append-nil, arith, Result, Ok, Err, String, Global, BTreeMap, string_bytes}
+use Rattle.std.proofs.Common.{◌≡◌, ◌-◌, ◌≤◌, List, [], ◌∷◌, ◌++◌, length, map, true, sym, ap, ◌∙◌, subst, append_assoc, append-nil, arith, Result, Ok, Err, String, Global, BTreeMap, string_bytes}
 use Rattle.std.specs.Prelude.{OnOk}
 use Rattle.std.proofs.lemmas.List.{nil_from_length}
 use Rattle.toml.specs.Data.{Data, table, no_members, depth}

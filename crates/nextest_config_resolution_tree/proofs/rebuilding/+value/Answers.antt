@@ -1,11 +1,10 @@
-use Rattle.std.proofs.Common.{◌≡◌, ◌<◌, ℕ, List, ◌++◌, length, map, Option, Some, None, option_map, refl, sym, ap, ◌∙◌, subst, arith}
-use Rattle.std.proofs.lemmas.List.{length-append, length-map}
+use Rattle.std.proofs.Common.{◌≡◌, ℕ, List, map, Option, Some, None, option_map, refl, sym, ap, ◌∙◌, arith}
 use Rattle.toml.specs.Data.{Data}
 use Rattle.toml.specs.View.{members_view, table_view, view}
 use Rattle.toml.specs.declared.value.Value.{Value}
 use Rattle.nextest_config_resolution_tree.specs.Tree.{with_member}
-use Rattle.nextest_config_resolution_tree.proofs.Tables.{Pair, set_entry}
-use Rattle.nextest_config_resolution_tree.specs.Ends.{End, behind}
+use Rattle.nextest_config_resolution_tree.proofs.Tables.{set_entry}
+use Rattle.nextest_config_resolution_tree.specs.Ends.{behind}
 use Rattle.nextest_config_resolution_tree.specs.RunOf.{run_of}
 use Rattle.nextest_config_resolution_tree.proofs.Rebuilt.{leaf_there, next_member, none_left, none_there, weight, weight_append, weight_behind}
 use Rattle.nextest_config_resolution_tree.proofs.rebuilding.+value.Goals as goal

@@ -1,4 +1,4 @@
-use Rattle.std.proofs.Common.{◌≡◌, ℕ, zero, suc, [], ◌∷◌, drop, refl, sym, ◌∙◌}
+use Rattle.std.proofs.Common.{◌≡◌, ℕ, zero, suc, [], ◌∷◌, drop, refl, ◌∙◌}
 use Rattle.std.specs.List.{slice_get}
 use Rattle.toml.specs.Data.{Data}
 use Rattle.toml.specs.View.{view}

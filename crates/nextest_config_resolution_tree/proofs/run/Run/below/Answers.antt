@@ -1,4 +1,4 @@
-use Rattle.std.proofs.Common.{rules, arith, ◌<◌, length}
+use Rattle.std.proofs.Common.{rules}
 use Rattle.nextest_config_resolution_tree.specs.Runs.{below}
 use Rattle.nextest_config_resolution_tree.specs.RunOf.{run_of}
 use Rattle.nextest_config_resolution_tree.proofs.Keyed.{deep, is_further, rises_further}

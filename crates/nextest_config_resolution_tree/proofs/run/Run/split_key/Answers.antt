@@ -1,4 +1,4 @@
-use Rattle.std.proofs.Common.{◌≡◌, ◌+◌, ◌<◌, ◌++◌, true, List, Some, length, map, ap, sym, ◌∙◌, subst, option_map}
+use Rattle.std.proofs.Common.{◌≡◌, ◌+◌, ◌<◌, ◌++◌, List, Some, length, map, ap, sym, ◌∙◌, subst, option_map}
 use Rattle.std.specs.List.{list_all}
 use Rattle.nextest_config_resolution_tree.specs.Ends.{End, behind, cut, ends_of, rises}
 use Rattle.nextest_config_resolution_tree.specs.RunOf.{run_of}
