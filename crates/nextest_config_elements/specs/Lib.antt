@@ -1,6 +1,7 @@
 -- What the contracts of the items that this crate hands on speak of.
 -- levels, limits, modes, displays and flaky tests
 pub use Rattle.nextest_config_elements_choices.specs.Display
+pub use Rattle.nextest_config_elements_choices.specs.FailWeight
 pub use Rattle.nextest_config_elements_choices.specs.Flaky
 pub use Rattle.nextest_config_elements_choices.specs.Laws
 pub use Rattle.nextest_config_elements_choices.specs.Levels
@@ -28,6 +29,7 @@ pub use Rattle.nextest_config_elements_values.specs.Timeouts
 pub use Rattle.nextest_config_elements_toml.specs.Paths
 pub use Rattle.nextest_config_elements_toml.specs.Reading
 pub use Rattle.nextest_config_elements_deserialize.specs.Accepted
+pub use Rattle.nextest_config_elements_deserialize.specs.FailWeights as FailWeightReadings
 pub use Rattle.nextest_config_elements_deserialize.specs.Junit as JunitReadings
 pub use Rattle.nextest_config_elements_deserialize.specs.Laws as ReadingLaws
 pub use Rattle.nextest_config_elements_deserialize.specs.Levels as LevelReadings
@@ -57,6 +59,7 @@ pub use Rattle.nextest_config_elements_choices.specs.declared.run_mode.NextestRu
 pub use Rattle.nextest_config_elements_choices.specs.declared.status_level.FinalStatusLevel
 pub use Rattle.nextest_config_elements_choices.specs.declared.status_level.StatusLevel
 pub use Rattle.nextest_config_elements_choices.specs.declared.output_display.TestOutputDisplay
+pub use Rattle.nextest_config_elements_choices.specs.declared.fail_weight.FailWeightOutOfRange
 pub use Rattle.nextest_config_elements_choices.specs.declared.max_fail.BadText
 pub use Rattle.nextest_config_elements_choices.specs.declared.max_fail.MaxFail as MaxFailType
 pub use Rattle.nextest_config_elements_choices.specs.declared.max_fail.TerminateMode

@@ -1,4 +1,5 @@
 pub mod Display
+pub mod FailWeight
 pub mod Flaky
 pub mod Laws
 pub mod Levels

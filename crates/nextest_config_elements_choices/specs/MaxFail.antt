@@ -7,10 +7,11 @@ use Rattle.nextest_config_elements_choices.specs.declared.max_fail.MaxFail.TheVa
 use Rattle.nextest_config_elements_choices.specs.declared.max_fail.TerminateMode.{TerminateMode}
 use Rattle.nextest_config_elements_choices.specs.declared.max_fail.TerminateMode.TheVariants.{Wait, Immediate}
 
--- how a run with these many failures stops, or nothing where it goes on
+-- how a run stops whose failing tests weigh so much together, or nothing where it goes on
 abbrev pub mode_at : MaxFail → ℕ → Option TerminateMode
-mode_at (Count max_fail terminate) failed = if nat_le max_fail failed then Some terminate else None
-mode_at All failed = None
+mode_at (Count max_fail terminate) failed_weight =
+    if nat_le max_fail failed_weight then Some terminate else None
+mode_at All failed_weight = None
 
 -- the limit of a run that fails fast, or doesn't
 abbrev pub of_fail_fast : Bool → MaxFail

@@ -1,5 +1,6 @@
 // When failing tests stop a run.
 ghost use Rattle.std.specs.Prelude.{◌≡◌, ◌≢◌, ◌↔◌, ℕ, IsTrue, IfOk, IfSome, IfNone, OnErr};
+ghost use Rattle.nextest_config_elements_choices.specs.FailWeight.{capped};
 ghost use Rattle.nextest_config_elements_choices.specs.MaxFail.{IsAll, IsCount, IsLimit, IsMaxFail, mode_at, of_fail_fast, word_of};
 ghost use Rattle.nextest_config_elements_choices.specs.declared.max_fail.MaxFail.{MaxFail};
 ghost use Rattle.nextest_config_elements_choices.specs.declared.max_fail.MaxFail.TheVariants.{Count};
@@ -51,12 +52,12 @@ impl fmt::Display for TerminateMode {
     }
 }
 
-/// How many failing tests stop a run.
+/// When failing tests stop a run: each of them has a weight, which is 1 where nothing else is set.
 #[derive(Clone, Copy, Debug, PartialEq, Eq, Hash)]
 pub enum MaxFail {
-    /// The run stops once this many tests failed.
+    /// The run stops once its failing tests weigh this much together.
     Count {
-        /// The number of failing tests, at least 1 in every accepted configuration.
+        /// Their weight, at least 1 in every accepted configuration.
         max_fail: usize,
         /// How it stops.
         terminate: TerminateMode,
@@ -95,15 +96,17 @@ impl MaxFail {
         limit_of(text)
     }
 
-    /// How the run stops where `failed` tests failed; `None` where it goes on.
-    pub fn is_exceeded(self, failed: usize) -> Option<TerminateMode>
-        ensures { result ≡ mode_at self failed }
+    /// How the run stops where its failing tests weigh `failed_weight` together; `None` where it
+    /// goes on. A sum that no `usize` has may be given as `usize::MAX`.
+    pub fn is_exceeded(self, failed_weight: usize) -> Option<TerminateMode>
+        ensures found { result ≡ mode_at self failed_weight }
+        ensures capped { (sum : ℕ) → failed_weight ≡ capped sum → result ≡ mode_at self sum }
     {
         match self {
             MaxFail::Count {
                 max_fail,
                 terminate,
-            } if max_fail <= failed => Some(terminate),
+            } if max_fail <= failed_weight => Some(terminate),
             _ => None,
         }
     }

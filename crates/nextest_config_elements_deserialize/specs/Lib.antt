@@ -1,5 +1,6 @@
 pub mod Accepted
 pub mod Below
+pub mod FailWeights
 pub mod Junit
 pub mod Keys
 pub mod Laws

@@ -13,8 +13,8 @@ use std::alloc::Global;
 use toml::{Table, Value};
 
 /// When failing tests stop a run: with `true` the first does, and what runs may end; with `false`
-/// none does. A table has `max-fail`, an integer from 1 to 9223372036854775807 or `all`, and may
-/// have `terminate`, `wait` or `immediate` (`wait` where it is left out); beside `all` it is read
+/// none does. A table has `max-fail`, what failing tests have to weigh together, an integer from 1
+/// to 9223372036854775807 or `all`, and may have `terminate`, `wait` or `immediate` (`wait` where it is left out); beside `all` it is read
 /// and left aside. An `Err` names the first of these that is missing or may not be; other keys are
 /// read past.
 pub fn deserialize_fail_fast(

@@ -9,6 +9,7 @@ mod backoff;
 mod config_value;
 mod deserialize_value;
 mod fail_fast;
+mod fail_weight;
 mod junit;
 pub mod laws;
 mod levels;
@@ -26,6 +27,7 @@ mod words;
 pub use config_value::{ConfigValue, defaulted, optional, required, whole};
 pub use deserialize_value::DeserializeValue;
 pub use fail_fast::deserialize_fail_fast;
+pub use fail_weight::deserialize_fail_weight;
 pub use junit::{deserialize_junit_flaky_fail_status, deserialize_report_skip_policy};
 pub use levels::{
     deserialize_final_status_level, deserialize_flaky_result, deserialize_leak_timeout_result,

@@ -1,14 +1,14 @@
-// How many failing tests stop a run.
+// At which weight failing tests stop a run.
 use crate::config_value::ConfigValue;
 use crate::values::Any;
 use toml::Value;
 
-// How many failing tests stop a run.
+// At which weight failing tests stop a run.
 #[derive(Clone, Copy)]
 pub(crate) enum Limit {
-    // So many.
+    // At so much.
     Count(usize),
-    // None do.
+    // At none.
     All,
 }
 

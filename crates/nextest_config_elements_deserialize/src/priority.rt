@@ -1,5 +1,6 @@
 // In which order tests run.
 ghost use Rattle.std.specs.Prelude.{◌≡◌};
+ghost use Rattle.std.specs.Result.{result_ok};
 ghost use Rattle.toml.specs.View.{view};
 ghost use Rattle.nextest_config_elements_values.specs.Priority.{priority_of};
 ghost use Rattle.nextest_config_elements_toml.specs.Paths.{Gives};
@@ -40,7 +41,7 @@ impl ConfigValue<Any> for TestPriority {
 
 // The priority that a number is.
 fn priority_of(number: i64) -> Option<TestPriority>
-    ensures { result ≡ read.within (priority_of number) }
+    ensures { result ≡ result_ok (priority_of number) }
 {
     if -100 <= number && number <= 100 {
         TestPriority::new(number as i8).ok()
