@@ -60,6 +60,7 @@ is_profile members bench first second junit third last bench_is first_is second_
       fail_fast = one.fail_fast;
       global_timeout = two.global_timeout;
       test_threads = four.test_threads;
+      fail_weight = one.fail_weight;
       flaky_result = two.flaky_result;
       leak_timeout = three.leak_timeout;
       retries = three.retries;
@@ -93,6 +94,7 @@ abbrev first_of_config : ProfileConfig → DefaultToFinal
 first_of_config config = record {
   default_filter = config.default_filter;
   fail_fast = config.run.fail_fast;
+  fail_weight = config.test.fail_weight;
   failure_output = config.output.failure_output;
   final_status_level = config.output.final_status_level;
 }
@@ -128,6 +130,7 @@ profile_read members config is =
     ∙ step (default_to_final members) (second_on members config.bench) first (first_read members first (record {
       default_filter = is.default_filter;
       fail_fast = is.fail_fast;
+      fail_weight = is.fail_weight;
       failure_output = is.failure_output;
       final_status_level = is.final_status_level;
     }))

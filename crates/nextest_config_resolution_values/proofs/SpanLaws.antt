@@ -20,6 +20,7 @@ use Rattle.nextest_config_elements_deserialize.proofs.Keys.{taken, step, optiona
 use Rattle.nextest_config_elements_deserialize.proofs.Policies.{accepted_policy}
 use Rattle.nextest_config_elements_deserialize.proofs.Slow.{accepted_slow_timeout}
 use Rattle.nextest_config_elements_deserialize.specs.Accepted.{MayHave, IsRetryPolicy, IsSlowTimeout}
+use Rattle.nextest_config_elements_deserialize.specs.FailWeights.{fail_weight}
 use Rattle.nextest_config_elements_deserialize.specs.Junit.{report_skip_policy, flaky_fail_status}
 use Rattle.nextest_config_elements_deserialize.specs.Limits.{fail_fast_in}
 use Rattle.nextest_config_elements_deserialize.specs.Retries.{retry_policy_in}
@@ -128,14 +129,17 @@ junit_read members values is =
     (has_optional (codes "store-success-output") truth members values.store_success_output is.store_success_output)
 
 -- from `default-filter` to `final-status-level`, from the last key on
-abbrev first_4 : Members → Option (List ℕ) → Option MaxFail → Option TestOutputDisplay → Option FinalStatusLevel → Reading DefaultToFinal
-first_4 all a1 a2 a3 a4 = Ok (record { default_filter = a1; fail_fast = a2; failure_output = a3; final_status_level = a4 })
+abbrev first_5 : Members → Option (List ℕ) → Option MaxFail → Option ℕ → Option TestOutputDisplay → Option FinalStatusLevel → Reading DefaultToFinal
+first_5 all a1 a2 a3 a4 a5 = Ok (record { default_filter = a1; fail_fast = a2; fail_weight = a3; failure_output = a4; final_status_level = a5 })
 
-abbrev first_3 : Members → Option (List ℕ) → Option MaxFail → Option TestOutputDisplay → Reading DefaultToFinal
-first_3 members a1 a2 a3 = optional (codes "final-status-level") final_status_level members >>= first_4 members a1 a2 a3
+abbrev first_4 : Members → Option (List ℕ) → Option MaxFail → Option ℕ → Option TestOutputDisplay → Reading DefaultToFinal
+first_4 members a1 a2 a3 a4 = optional (codes "final-status-level") final_status_level members >>= first_5 members a1 a2 a3 a4
+
+abbrev first_3 : Members → Option (List ℕ) → Option MaxFail → Option ℕ → Reading DefaultToFinal
+first_3 members a1 a2 a3 = optional (codes "failure-output") output_display members >>= first_4 members a1 a2 a3
 
 abbrev first_2 : Members → Option (List ℕ) → Option MaxFail → Reading DefaultToFinal
-first_2 members a1 a2 = optional (codes "failure-output") output_display members >>= first_3 members a1 a2
+first_2 members a1 a2 = optional (codes "fail-weight") fail_weight members >>= first_3 members a1 a2
 
 abbrev first_1 : Members → Option (List ℕ) → Reading DefaultToFinal
 first_1 members a1 = optional_by (codes "fail-fast") fail_fast_in members >>= first_2 members a1
@@ -143,6 +147,7 @@ first_1 members a1 = optional_by (codes "fail-fast") fail_fast_in members >>= fi
 pub record IsFirst (members : Members) (values : DefaultToFinal) : Type 0 where
   pub default_filter : MayHave members (codes "default-filter") as_str values.default_filter
   pub fail_fast : MayBe members (codes "fail-fast") (Reads fail_fast_in) values.fail_fast
+  pub fail_weight : MayHave members (codes "fail-weight") fail_weight values.fail_weight
   pub failure_output : MayHave members (codes "failure-output") output_display values.failure_output
   pub final_status_level : MayHave members (codes "final-status-level") final_status_level values.final_status_level
 
@@ -154,15 +159,17 @@ unfolding default_to_final
 read_first members values e =
     let s1 = taken (optional (codes "default-filter") as_str members) (first_1 members) values e in
     let s2 = taken (optional_by (codes "fail-fast") fail_fast_in members) (first_2 members s1.between) values s1.on in
-    let s3 = taken (optional (codes "failure-output") output_display members) (first_3 members s1.between s2.between) values s2.on in
-    let s4 = taken (optional (codes "final-status-level") final_status_level members) (first_4 members s1.between s2.between s3.between) values s3.on in
-    let made : DefaultToFinal = record { default_filter = s1.between; fail_fast = s2.between; failure_output = s3.between; final_status_level = s4.between } in
-    let same : made ≡ values = first_same made values s4.on in
+    let s3 = taken (optional (codes "fail-weight") fail_weight members) (first_3 members s1.between s2.between) values s2.on in
+    let s4 = taken (optional (codes "failure-output") output_display members) (first_4 members s1.between s2.between s3.between) values s3.on in
+    let s5 = taken (optional (codes "final-status-level") final_status_level members) (first_5 members s1.between s2.between s3.between s4.between) values s4.on in
+    let made : DefaultToFinal = record { default_filter = s1.between; fail_fast = s2.between; fail_weight = s3.between; failure_output = s4.between; final_status_level = s5.between } in
+    let same : made ≡ values = first_same made values s5.on in
     subst (λ (it : DefaultToFinal). IsFirst members it) {x = made} {y = values} same (record {
       default_filter = optional_has (codes "default-filter") as_str members s1.between s1.read;
       fail_fast = by_has (codes "fail-fast") fail_fast_in (Reads fail_fast_in) (read_so fail_fast_in) members s2.between s2.read;
-      failure_output = optional_has (codes "failure-output") output_display members s3.between s3.read;
-      final_status_level = optional_has (codes "final-status-level") final_status_level members s4.between s4.read;
+      fail_weight = optional_has (codes "fail-weight") fail_weight members s3.between s3.read;
+      failure_output = optional_has (codes "failure-output") output_display members s4.between s4.read;
+      final_status_level = optional_has (codes "final-status-level") final_status_level members s5.between s5.read;
     })
 
 pub first_read : (members : Members) (values : DefaultToFinal) → IsFirst members values → default_to_final members ≡ Ok values
@@ -172,9 +179,11 @@ first_read members values is =
     (has_optional (codes "default-filter") as_str members values.default_filter is.default_filter)
     ∙ step (optional_by (codes "fail-fast") fail_fast_in members) (first_2 members values.default_filter) values.fail_fast
     (has_by (codes "fail-fast") fail_fast_in (Reads fail_fast_in) (so_read fail_fast_in) members values.fail_fast is.fail_fast)
-    ∙ step (optional (codes "failure-output") output_display members) (first_3 members values.default_filter values.fail_fast) values.failure_output
+    ∙ step (optional (codes "fail-weight") fail_weight members) (first_3 members values.default_filter values.fail_fast) values.fail_weight
+    (has_optional (codes "fail-weight") fail_weight members values.fail_weight is.fail_weight)
+    ∙ step (optional (codes "failure-output") output_display members) (first_4 members values.default_filter values.fail_fast values.fail_weight) values.failure_output
     (has_optional (codes "failure-output") output_display members values.failure_output is.failure_output)
-    ∙ step (optional (codes "final-status-level") final_status_level members) (first_4 members values.default_filter values.fail_fast values.failure_output) values.final_status_level
+    ∙ step (optional (codes "final-status-level") final_status_level members) (first_5 members values.default_filter values.fail_fast values.fail_weight values.failure_output) values.final_status_level
     (has_optional (codes "final-status-level") final_status_level members values.final_status_level is.final_status_level)
 
 -- from `flaky-result` to `inherits`, from the last key on

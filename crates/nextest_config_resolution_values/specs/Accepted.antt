@@ -2,6 +2,7 @@
 use Rattle.std.specs.Prelude.{codes}
 use Rattle.toml.specs.Data.{Members, as_str}
 use Rattle.nextest_config_elements_deserialize.specs.Accepted.{MayHave, IsRetryPolicy, IsSlowTimeout}
+use Rattle.nextest_config_elements_deserialize.specs.FailWeights.{fail_weight}
 use Rattle.nextest_config_elements_deserialize.specs.Junit.{report_skip_policy, flaky_fail_status}
 use Rattle.nextest_config_elements_deserialize.specs.Limits.{fail_fast_in}
 use Rattle.nextest_config_elements_deserialize.specs.Threads.{test_threads, threads_required}
@@ -36,6 +37,7 @@ pub record IsProfile (members : Members) (config : ProfileConfig) : Type 0 where
   pub fail_fast : MayBe members (codes "fail-fast") (Reads fail_fast_in) config.run.fail_fast
   pub global_timeout : MayBe members (codes "global-timeout") (Reads global_timeout_in) config.run.global_timeout
   pub test_threads : MayHave members (codes "test-threads") test_threads config.run.test_threads
+  pub fail_weight : MayHave members (codes "fail-weight") fail_weight config.test.fail_weight
   pub flaky_result : MayHave members (codes "flaky-result") flaky_result config.test.flaky_result
   pub leak_timeout : MayBe members (codes "leak-timeout") (Reads leak_timeout_in) config.test.leak_timeout
   pub retries : MayBe members (codes "retries") IsRetryPolicy config.test.retries

@@ -2,6 +2,7 @@
 use Rattle.std.specs.Prelude.{codes, Option, Ok}
 use Rattle.toml.specs.Data.{Data, Members, as_str}
 use Rattle.nextest_config_elements_toml.specs.Reading.{Reading, ◌>>=◌, optional}
+use Rattle.nextest_config_elements_deserialize.specs.FailWeights.{fail_weight}
 use Rattle.nextest_config_elements_deserialize.specs.Junit.{report_skip_policy, flaky_fail_status}
 use Rattle.nextest_config_elements_deserialize.specs.Limits.{fail_fast_in}
 use Rattle.nextest_config_elements_deserialize.specs.Retries.{retry_policy_in}
@@ -48,9 +49,16 @@ unfoldable pub default_to_final : Members → Reading DefaultToFinal
 default_to_final members = do
   default_filter ← optional (codes "default-filter") as_str members
   fail_fast ← optional_by (codes "fail-fast") fail_fast_in members
+  weight ← optional (codes "fail-weight") fail_weight members
   failure_output ← optional (codes "failure-output") output_display members
   final_level ← optional (codes "final-status-level") final_status_level members
-  Ok (record { default_filter = default_filter; fail_fast = fail_fast; failure_output = failure_output; final_status_level = final_level })
+  Ok (record {
+    default_filter = default_filter;
+    fail_fast = fail_fast;
+    fail_weight = weight;
+    failure_output = failure_output;
+    final_status_level = final_level;
+  })
 
 unfoldable pub flaky_to_inherits : Members → Reading FlakyToInherits
 flaky_to_inherits members = do
@@ -83,6 +91,7 @@ config_of bench first second junit third last = record {
   run_extra_args = third.run_extra_args;
   run = record { fail_fast = first.fail_fast; global_timeout = second.global_timeout; test_threads = last.test_threads };
   test = record {
+    fail_weight = first.fail_weight;
     flaky_result = second.flaky_result;
     leak_timeout = third.leak_timeout;
     retries = third.retries;

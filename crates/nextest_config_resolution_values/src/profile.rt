@@ -93,6 +93,7 @@ fn config_of(
             test_threads: last.test_threads,
         },
         test: ProfileTest {
+            fail_weight: first.fail_weight,
             flaky_result: second.flaky_result,
             leak_timeout: third.leak_timeout,
             retries: third.retries,

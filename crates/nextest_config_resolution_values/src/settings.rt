@@ -1,6 +1,6 @@
 // The settings of a profile that have no parts to drop.
 use nextest_config_elements_choices::{
-    FinalStatusLevel, FlakyResult, MaxFail, StatusLevel, TestOutputDisplay,
+    FailWeight, FinalStatusLevel, FlakyResult, MaxFail, StatusLevel, TestOutputDisplay,
 };
 use nextest_config_elements_values::{
     GlobalTimeout, LeakTimeout, RetryPolicy, SlowTimeout, TestThreads, ThreadsRequired,
@@ -20,6 +20,8 @@ pub struct ProfileRun {
 /// How each test is run. Each setting is `None` where its key is left out.
 #[derive(Clone, Copy)]
 pub struct ProfileTest {
+    /// `fail-weight`: how much it weighs where it fails.
+    pub fail_weight: Option<FailWeight>,
     /// `flaky-result`: what becomes of it where it passes on a later attempt than its first.
     pub flaky_result: Option<FlakyResult>,
     /// `leak-timeout`: how long handles may stay open behind it.

@@ -6,7 +6,7 @@ ghost use Rattle.nextest_config_elements_deserialize.specs.Paths.{profile_path};
 ghost use Rattle.nextest_config_resolution_values.specs.Profile as read;
 
 use nextest_config_elements_choices::{
-    FinalStatusLevel, FlakyResult, MaxFail, StatusLevel, TestOutputDisplay,
+    FailWeight, FinalStatusLevel, FlakyResult, MaxFail, StatusLevel, TestOutputDisplay,
 };
 use nextest_config_elements_deserialize::{Any, optional, optional_text, optional_value};
 use nextest_config_elements_toml::{TableMembers, ValueError};
@@ -21,6 +21,7 @@ use std::alloc::Global;
 pub(crate) struct DefaultToFinal {
     pub(crate) default_filter: Option<Text>,
     pub(crate) fail_fast: Option<MaxFail>,
+    pub(crate) fail_weight: Option<FailWeight>,
     pub(crate) failure_output: Option<TestOutputDisplay>,
     pub(crate) final_status_level: Option<FinalStatusLevel>,
 }
@@ -65,6 +66,7 @@ pub(crate) fn default_to_final(
     let path = ["profile", name];
     let default_filter = optional_text(alloc, members, &path, "default-filter")?;
     let fail_fast = optional_value::<MaxFail>(alloc, members, &path, "fail-fast")?;
+    let fail_weight = optional::<Any, FailWeight>(alloc, members, &path, "fail-weight")?;
     let failure_output = optional::<Any, TestOutputDisplay>(
         alloc,
         members,
@@ -80,6 +82,7 @@ pub(crate) fn default_to_final(
     Ok(DefaultToFinal {
         default_filter,
         fail_fast,
+        fail_weight,
         failure_output,
         final_status_level,
     })

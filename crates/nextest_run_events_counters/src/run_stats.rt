@@ -4,7 +4,8 @@ ghost use Rattle.std.specs.Prelude.{◌≡◌, ◌^◌, ◌<◌, ◌⊎◌, ◌�
 use super::summary::{FinalRunStats, RunStatsFailureKind};
 use nextest_run_events_results::CancelReason;
 
-/// The counters of a run. Each counts finished scripts or tests; a test counts by its last attempt.
+/// The counters of a run. Each counts finished scripts or tests, but for the weight of the tests
+/// that failed; a test counts by its last attempt.
 #[derive(Clone, Copy, Debug, Default, PartialEq, Eq)]
 pub struct RunStats {
     /// How many tests were to run. More than `finished_count` at the end of a run that was cut
@@ -47,6 +48,9 @@ pub struct RunStats {
     pub exec_failed: usize,
     /// Tests that were skipped.
     pub skipped: usize,
+    /// What the tests that failed, could not be started, or took too long and failed weigh
+    /// together, at most `usize::MAX`.
+    pub failed_weight: usize,
     /// Why the run was cancelled, if it was.
     pub cancel_reason: Option<CancelReason>,
 }
