@@ -31,6 +31,7 @@ is_override : (members : Members) (first : BenchToFlaky) (second : JunitToRetrie
 is_override all first second last one two three = record {
   bench_slow_timeout = one.bench_slow_timeout;
   default_filter = one.default_filter;
+  fail_weight = one.fail_weight;
   failure_output = one.failure_output;
   filter = one.filter;
   flaky_result = one.flaky_result;
@@ -60,7 +61,7 @@ read_override members config e =
 
 -- the parts of an override
 abbrev first_of_config : OverrideConfig → BenchToFlaky
-first_of_config config = record { bench_slow_timeout = config.bench_slow_timeout; default_filter = config.default_filter; failure_output = config.failure_output; filter = config.filter; flaky_result = config.flaky_result }
+first_of_config config = record { bench_slow_timeout = config.bench_slow_timeout; default_filter = config.default_filter; fail_weight = config.fail_weight; failure_output = config.failure_output; filter = config.filter; flaky_result = config.flaky_result }
 
 abbrev second_of_config : OverrideConfig → JunitToRetries
 second_of_config config = record { junit = config.junit; leak_timeout = config.leak_timeout; platform = config.platform; priority = config.priority; retries = config.retries }
@@ -74,7 +75,7 @@ override_read members config is =
     let first = first_of_config config in
     let second = second_of_config config in
     let last = last_of_config config in
-    step (bench_to_flaky members) (first_on members) first (first_read members first (record { bench_slow_timeout = is.bench_slow_timeout; default_filter = is.default_filter; failure_output = is.failure_output; filter = is.filter; flaky_result = is.flaky_result }))
+    step (bench_to_flaky members) (first_on members) first (first_read members first (record { bench_slow_timeout = is.bench_slow_timeout; default_filter = is.default_filter; fail_weight = is.fail_weight; failure_output = is.failure_output; filter = is.filter; flaky_result = is.flaky_result }))
     ∙ step (junit_to_retries members) (second_on members first) second (second_read members second (record { junit = is.junit; leak_timeout = is.leak_timeout; platform = is.platform; priority = is.priority; retries = is.retries }))
     ∙ step (args_to_threads members) (third_on members first second) last (last_read members last (record { run_extra_args = is.run_extra_args; slow_timeout = is.slow_timeout; success_output = is.success_output; test_group = is.test_group; threads_required = is.threads_required }))
 

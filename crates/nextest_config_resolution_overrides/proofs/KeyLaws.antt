@@ -14,6 +14,7 @@ use Rattle.nextest_config_elements_deserialize.proofs.Keys.{taken, step, optiona
 use Rattle.nextest_config_elements_deserialize.proofs.Policies.{accepted_policy}
 use Rattle.nextest_config_elements_deserialize.proofs.Slow.{accepted_slow_timeout}
 use Rattle.nextest_config_elements_deserialize.specs.Accepted.{MayHave, IsRetryPolicy, IsSlowTimeout}
+use Rattle.nextest_config_elements_deserialize.specs.FailWeights.{fail_weight}
 use Rattle.nextest_config_elements_deserialize.specs.Names.{group, test_group_in}
 use Rattle.nextest_config_elements_deserialize.specs.Priority.{priority}
 use Rattle.nextest_config_elements_deserialize.specs.Retries.{retry_policy_in}
@@ -33,17 +34,20 @@ use Rattle.nextest_config_resolution_overrides.specs.declared.spans.BenchToFlaky
 use Rattle.nextest_config_resolution_overrides.specs.declared.spans.JunitToRetries.{JunitToRetries}
 
 -- from `bench` to `flaky-result`, from the last key on
-abbrev first_5 : Members → Option SlowTimeout → Option (List ℕ) → Option TestOutputDisplay → Option (List ℕ) → Option FlakyResult → Reading BenchToFlaky
-first_5 all a1 a2 a3 a4 a5 = Ok (record { bench_slow_timeout = a1; default_filter = a2; failure_output = a3; filter = a4; flaky_result = a5 })
+abbrev first_6 : Members → Option SlowTimeout → Option (List ℕ) → Option ℕ → Option TestOutputDisplay → Option (List ℕ) → Option FlakyResult → Reading BenchToFlaky
+first_6 all a1 a2 a3 a4 a5 a6 = Ok (record { bench_slow_timeout = a1; default_filter = a2; fail_weight = a3; failure_output = a4; filter = a5; flaky_result = a6 })
 
-abbrev first_4 : Members → Option SlowTimeout → Option (List ℕ) → Option TestOutputDisplay → Option (List ℕ) → Reading BenchToFlaky
-first_4 members a1 a2 a3 a4 = optional (codes "flaky-result") flaky_result members >>= first_5 members a1 a2 a3 a4
+abbrev first_5 : Members → Option SlowTimeout → Option (List ℕ) → Option ℕ → Option TestOutputDisplay → Option (List ℕ) → Reading BenchToFlaky
+first_5 members a1 a2 a3 a4 a5 = optional (codes "flaky-result") flaky_result members >>= first_6 members a1 a2 a3 a4 a5
 
-abbrev first_3 : Members → Option SlowTimeout → Option (List ℕ) → Option TestOutputDisplay → Reading BenchToFlaky
-first_3 members a1 a2 a3 = optional (codes "filter") as_str members >>= first_4 members a1 a2 a3
+abbrev first_4 : Members → Option SlowTimeout → Option (List ℕ) → Option ℕ → Option TestOutputDisplay → Reading BenchToFlaky
+first_4 members a1 a2 a3 a4 = optional (codes "filter") as_str members >>= first_5 members a1 a2 a3 a4
+
+abbrev first_3 : Members → Option SlowTimeout → Option (List ℕ) → Option ℕ → Reading BenchToFlaky
+first_3 members a1 a2 a3 = optional (codes "failure-output") output_display members >>= first_4 members a1 a2 a3
 
 abbrev first_2 : Members → Option SlowTimeout → Option (List ℕ) → Reading BenchToFlaky
-first_2 members a1 a2 = optional (codes "failure-output") output_display members >>= first_3 members a1 a2
+first_2 members a1 a2 = optional (codes "fail-weight") fail_weight members >>= first_3 members a1 a2
 
 abbrev first_1 : Members → Option SlowTimeout → Reading BenchToFlaky
 first_1 members a1 = optional (codes "default-filter") as_str members >>= first_2 members a1
@@ -51,6 +55,7 @@ first_1 members a1 = optional (codes "default-filter") as_str members >>= first_
 pub record IsFirst (members : Members) (values : BenchToFlaky) : Type 0 where
   pub bench_slow_timeout : MayHaveBench members values.bench_slow_timeout
   pub default_filter : MayHave members (codes "default-filter") as_str values.default_filter
+  pub fail_weight : MayHave members (codes "fail-weight") fail_weight values.fail_weight
   pub failure_output : MayHave members (codes "failure-output") output_display values.failure_output
   pub filter : MayHave members (codes "filter") as_str values.filter
   pub flaky_result : MayHave members (codes "flaky-result") flaky_result values.flaky_result
@@ -63,17 +68,19 @@ unfolding bench_to_flaky
 read_first members values e =
     let s1 = taken (bench_at members) (first_1 members) values e in
     let s2 = taken (optional (codes "default-filter") as_str members) (first_2 members s1.between) values s1.on in
-    let s3 = taken (optional (codes "failure-output") output_display members) (first_3 members s1.between s2.between) values s2.on in
-    let s4 = taken (optional (codes "filter") as_str members) (first_4 members s1.between s2.between s3.between) values s3.on in
-    let s5 = taken (optional (codes "flaky-result") flaky_result members) (first_5 members s1.between s2.between s3.between s4.between) values s4.on in
-    let made : BenchToFlaky = record { bench_slow_timeout = s1.between; default_filter = s2.between; failure_output = s3.between; filter = s4.between; flaky_result = s5.between } in
-    let same : made ≡ values = first_same made values s5.on in
+    let s3 = taken (optional (codes "fail-weight") fail_weight members) (first_3 members s1.between s2.between) values s2.on in
+    let s4 = taken (optional (codes "failure-output") output_display members) (first_4 members s1.between s2.between s3.between) values s3.on in
+    let s5 = taken (optional (codes "filter") as_str members) (first_5 members s1.between s2.between s3.between s4.between) values s4.on in
+    let s6 = taken (optional (codes "flaky-result") flaky_result members) (first_6 members s1.between s2.between s3.between s4.between s5.between) values s5.on in
+    let made : BenchToFlaky = record { bench_slow_timeout = s1.between; default_filter = s2.between; fail_weight = s3.between; failure_output = s4.between; filter = s5.between; flaky_result = s6.between } in
+    let same : made ≡ values = first_same made values s6.on in
     subst (λ (it : BenchToFlaky). IsFirst members it) {x = made} {y = values} same (record {
       bench_slow_timeout = bench_has members s1.between s1.read;
       default_filter = optional_has (codes "default-filter") as_str members s2.between s2.read;
-      failure_output = optional_has (codes "failure-output") output_display members s3.between s3.read;
-      filter = optional_has (codes "filter") as_str members s4.between s4.read;
-      flaky_result = optional_has (codes "flaky-result") flaky_result members s5.between s5.read;
+      fail_weight = optional_has (codes "fail-weight") fail_weight members s3.between s3.read;
+      failure_output = optional_has (codes "failure-output") output_display members s4.between s4.read;
+      filter = optional_has (codes "filter") as_str members s5.between s5.read;
+      flaky_result = optional_has (codes "flaky-result") flaky_result members s6.between s6.read;
     })
 
 pub first_read : (members : Members) (values : BenchToFlaky) → IsFirst members values → bench_to_flaky members ≡ Ok values
@@ -83,11 +90,13 @@ first_read members values is =
     (has_bench members values.bench_slow_timeout is.bench_slow_timeout)
     ∙ step (optional (codes "default-filter") as_str members) (first_2 members values.bench_slow_timeout) values.default_filter
     (has_optional (codes "default-filter") as_str members values.default_filter is.default_filter)
-    ∙ step (optional (codes "failure-output") output_display members) (first_3 members values.bench_slow_timeout values.default_filter) values.failure_output
+    ∙ step (optional (codes "fail-weight") fail_weight members) (first_3 members values.bench_slow_timeout values.default_filter) values.fail_weight
+    (has_optional (codes "fail-weight") fail_weight members values.fail_weight is.fail_weight)
+    ∙ step (optional (codes "failure-output") output_display members) (first_4 members values.bench_slow_timeout values.default_filter values.fail_weight) values.failure_output
     (has_optional (codes "failure-output") output_display members values.failure_output is.failure_output)
-    ∙ step (optional (codes "filter") as_str members) (first_4 members values.bench_slow_timeout values.default_filter values.failure_output) values.filter
+    ∙ step (optional (codes "filter") as_str members) (first_5 members values.bench_slow_timeout values.default_filter values.fail_weight values.failure_output) values.filter
     (has_optional (codes "filter") as_str members values.filter is.filter)
-    ∙ step (optional (codes "flaky-result") flaky_result members) (first_5 members values.bench_slow_timeout values.default_filter values.failure_output values.filter) values.flaky_result
+    ∙ step (optional (codes "flaky-result") flaky_result members) (first_6 members values.bench_slow_timeout values.default_filter values.fail_weight values.failure_output values.filter) values.flaky_result
     (has_optional (codes "flaky-result") flaky_result members values.flaky_result is.flaky_result)
 
 -- from `junit` to `retries`, from the last key on

@@ -3,6 +3,7 @@ use Rattle.std.specs.Prelude.{◌≡◌, ◌⊎◌, ℕ, List, codes, Option, No
 use Rattle.toml.specs.Data.{Data, string, table, Members, as_str, get_member}
 use Rattle.nextest_config_elements_values.specs.declared.timeouts.SlowTimeout.{SlowTimeout}
 use Rattle.nextest_config_elements_deserialize.specs.Accepted.{IsLeftOut, MayHave, IsRetryPolicy, IsSlowTimeout}
+use Rattle.nextest_config_elements_deserialize.specs.FailWeights.{fail_weight}
 use Rattle.nextest_config_elements_deserialize.specs.Junit.{report_skip_policy, flaky_fail_status}
 use Rattle.nextest_config_elements_deserialize.specs.Names.{group}
 use Rattle.nextest_config_elements_deserialize.specs.Priority.{priority}
@@ -48,6 +49,7 @@ pub record IsJunit (members : Members) (config : OverrideJunit) : Type 0 where
 pub record IsOverride (members : Members) (config : OverrideConfig) : Type 0 where
   pub bench_slow_timeout : MayHaveBench members config.bench_slow_timeout
   pub default_filter : MayHave members (codes "default-filter") as_str config.default_filter
+  pub fail_weight : MayHave members (codes "fail-weight") fail_weight config.fail_weight
   pub failure_output : MayHave members (codes "failure-output") output_display config.failure_output
   pub filter : MayHave members (codes "filter") as_str config.filter
   pub flaky_result : MayHave members (codes "flaky-result") flaky_result config.flaky_result

@@ -4,6 +4,7 @@ use Rattle.std.specs.Prelude.{ℕ, ◌+◌, List, [], ◌∷◌, Option, None, S
 use Rattle.toml.specs.Data.{Data, string, array, table, Items, no_items, item, Members, as_str, get_member}
 use Rattle.nextest_config_elements_values.specs.declared.timeouts.SlowTimeout.{SlowTimeout}
 use Rattle.nextest_config_elements_toml.specs.Reading.{Reading, ◌>>=◌, optional, under}
+use Rattle.nextest_config_elements_deserialize.specs.FailWeights.{fail_weight}
 use Rattle.nextest_config_elements_deserialize.specs.Junit.{report_skip_policy, flaky_fail_status}
 use Rattle.nextest_config_elements_deserialize.specs.Names.{test_group_in}
 use Rattle.nextest_config_elements_deserialize.specs.Priority.{priority}
@@ -64,12 +65,14 @@ unfoldable pub bench_to_flaky : Members → Reading BenchToFlaky
 bench_to_flaky members = do
   bench_slow_timeout ← bench_at members
   default_filter ← optional (codes "default-filter") as_str members
+  weight ← optional (codes "fail-weight") fail_weight members
   failure_output ← optional (codes "failure-output") output_display members
   filter ← optional (codes "filter") as_str members
   flaky ← optional (codes "flaky-result") flaky_result members
   Ok (record {
     bench_slow_timeout = bench_slow_timeout;
     default_filter = default_filter;
+    fail_weight = weight;
     failure_output = failure_output;
     filter = filter;
     flaky_result = flaky;
@@ -104,6 +107,7 @@ abbrev pub config_of : BenchToFlaky → JunitToRetries → ArgsToThreads → Ove
 config_of first second last = record {
   bench_slow_timeout = first.bench_slow_timeout;
   default_filter = first.default_filter;
+  fail_weight = first.fail_weight;
   failure_output = first.failure_output;
   filter = first.filter;
   flaky_result = first.flaky_result;

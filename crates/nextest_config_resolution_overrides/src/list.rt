@@ -124,6 +124,7 @@ fn config_of(first: BenchToFlaky, second: JunitToRetries, last: ArgsToThreads) -
     OverrideConfig {
         bench_slow_timeout: first.bench_slow_timeout,
         default_filter: first.default_filter,
+        fail_weight: first.fail_weight,
         failure_output: first.failure_output,
         filter: first.filter,
         flaky_result: first.flaky_result,

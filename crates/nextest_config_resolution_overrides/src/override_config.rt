@@ -1,7 +1,7 @@
 // The values of an override.
 use crate::junit::OverrideJunit;
 use crate::platforms::OverridePlatforms;
-use nextest_config_elements_choices::{FlakyResult, TestOutputDisplay};
+use nextest_config_elements_choices::{FailWeight, FlakyResult, TestOutputDisplay};
 use nextest_config_elements_identifiers::TestGroup;
 use nextest_config_elements_values::{
     LeakTimeout, RetryPolicy, SlowTimeout, TestPriority, ThreadsRequired,
@@ -15,6 +15,8 @@ pub struct OverrideConfig {
     pub bench_slow_timeout: Option<SlowTimeout>,
     /// `default-filter`: the filterset of the tests that are run where none is asked for.
     pub default_filter: Option<Text>,
+    /// `fail-weight`: how much a test weighs where it fails.
+    pub fail_weight: Option<FailWeight>,
     /// `failure-output`: when the output of a test is shown that fails.
     pub failure_output: Option<TestOutputDisplay>,
     /// `filter`: the filterset of the tests on which the override holds.
@@ -49,6 +51,7 @@ impl Drop for OverrideConfig {
         let Self {
             bench_slow_timeout: _,
             default_filter: _,
+            fail_weight: _,
             failure_output: _,
             filter: _,
             flaky_result: _,

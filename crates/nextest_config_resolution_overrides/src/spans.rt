@@ -8,7 +8,7 @@ ghost use Rattle.nextest_config_elements_toml.specs.Paths.{GivesAt};
 use crate::bench::bench_at;
 use crate::junit::OverrideJunit;
 use crate::platforms::OverridePlatforms;
-use nextest_config_elements_choices::{FlakyResult, TestOutputDisplay};
+use nextest_config_elements_choices::{FailWeight, FlakyResult, TestOutputDisplay};
 use nextest_config_elements_deserialize::{Any, optional, optional_text, optional_value};
 use nextest_config_elements_identifiers::TestGroup;
 use nextest_config_elements_toml::{TableMembers, ValueError};
@@ -23,6 +23,7 @@ use std::alloc::Global;
 pub(crate) struct BenchToFlaky {
     pub(crate) bench_slow_timeout: Option<SlowTimeout>,
     pub(crate) default_filter: Option<Text>,
+    pub(crate) fail_weight: Option<FailWeight>,
     pub(crate) failure_output: Option<TestOutputDisplay>,
     pub(crate) filter: Option<Text>,
     pub(crate) flaky_result: Option<FlakyResult>,
@@ -63,6 +64,7 @@ pub(crate) fn bench_to_flaky(
     let path = ["profile", name, "overrides", place];
     let bench_slow_timeout = bench_at(alloc, name, place, members)?;
     let default_filter = optional_text(alloc, members, &path, "default-filter")?;
+    let fail_weight = optional::<Any, FailWeight>(alloc, members, &path, "fail-weight")?;
     let failure_output = optional::<Any, TestOutputDisplay>(
         alloc,
         members,
@@ -74,6 +76,7 @@ pub(crate) fn bench_to_flaky(
     Ok(BenchToFlaky {
         bench_slow_timeout,
         default_filter,
+        fail_weight,
         failure_output,
         filter,
         flaky_result,
