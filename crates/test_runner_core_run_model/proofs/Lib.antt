@@ -13,5 +13,7 @@ pub mod Finishing
 pub mod Reasons
 pub mod WholeRuns
 pub mod OneEnd
+pub mod FailLimit
+pub mod Weights
 pub mod Spending
 pub mod GoingOn

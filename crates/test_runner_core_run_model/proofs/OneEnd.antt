@@ -17,7 +17,7 @@ use Rattle.nextest_run_events_results.specs.Cancel.{graver_reason, is_inner}
 use Rattle.nextest_run_events_results.specs.Result.{is_success}
 use Rattle.nextest_run_events_counters.specs.Rows.{fails_test}
 use Rattle.nextest_run_events_results.specs.declared.record.Record.{Record}
-use Rattle.test_runner_core_run_model.specs.RunPlan.{RunPlan, IsPlan, IsPositiveLimit, weight}
+use Rattle.test_runner_core_run_model.specs.RunPlan.{RunPlan, IsPlan, IsPositiveLimit}
 use Rattle.test_runner_core_run_model.specs.declared.run_test.RunTest.{RunTest}
 use Rattle.test_runner_core_run_model.specs.Assignment.{Assignment, IsUnstopped, first_success, fails, failing_weight, some_script}
 use Rattle.test_runner_core_run_model.specs.Ends.{records_of_tries, first_scripts, final_test, final_tests, final_state}
@@ -42,20 +42,20 @@ use Rattle.test_runner_core_run_model.proofs.WholeRuns.{planned_initial, run_pla
 
 -- ---- what the tests that failed weigh
 
-abbrev weighed : TestState → ℕ
-weighed test = cond (counts fails_test test) (weight test.plan) 0
+abbrev pub weighed : TestState → ℕ
+weighed test = cond (counts fails_test test) test.plan.weight 0
 
 -- a test that isn't finished weighs nothing
-unfinished_weighs : (test : TestState) → is_finished test ≡ false → weighed test ≡ 0
-unfinished_weighs test unfinished = ap (λ (b : Bool). cond b (weight test.plan) 0) (unfinished_counts fails_test test unfinished)
+pub unfinished_weighs : (test : TestState) → is_finished test ≡ false → weighed test ≡ 0
+unfinished_weighs test unfinished = ap (λ (b : Bool). cond b test.plan.weight 0) (unfinished_counts fails_test test unfinished)
 
 -- it weighs no more than by its assignment
-weighed-le : (attempt : ℕ → Record) (test : TestState) → Fits attempt test → weighed test ≤ cond (fails test.plan attempt) (weight test.plan) 0
+weighed-le : (attempt : ℕ → Record) (test : TestState) → Fits attempt test → weighed test ≤ cond (fails test.plan attempt) test.plan.weight 0
 weighed-le attempt test fits = by_finished (is_finished test) refl
   where
-    by_finished : (over : Bool) → is_finished test ≡ over → weighed test ≤ cond (fails test.plan attempt) (weight test.plan) 0
+    by_finished : (over : Bool) → is_finished test ≡ over → weighed test ≤ cond (fails test.plan attempt) test.plan.weight 0
     by_finished true e =
-        let same = ap (λ (b : Bool). cond b (weight test.plan) 0) (finished_counts attempt test fits e) in
+        let same = ap (λ (b : Bool). cond b test.plan.weight 0) (finished_counts attempt test fits e) in
         omega (arith, same)
     by_finished false e = let none = unfinished_weighs test e in omega (arith, none)
 
@@ -72,7 +72,7 @@ failed_is : (tests : List TestState) (attempt : ℕ → ℕ → Record) → AllB
 failed_is [] attempt fits over = refl
 failed_is (test ∷ tests) attempt fits over =
     let finished = and_parts (is_finished test) (list_all is_finished tests) over in
-    let here = ap (λ (b : Bool). cond b (weight test.plan) 0) (finished_counts (attempt 0) test fits.0 finished.0) in
+    let here = ap (λ (b : Bool). cond b test.plan.weight 0) (finished_counts (attempt 0) test fits.0 finished.0) in
     let more = failed_is tests (λ place. attempt (suc place)) fits.1 finished.1 in
     rw (sum_by-cons weighed test tests) (omega (arith, here, more))
   where
@@ -81,7 +81,7 @@ failed_is (test ∷ tests) attempt fits over =
     and_parts false b h = cc
 
 -- a test that weighs as much may take another's place
-set_weighs : (tests : List TestState) (place : ℕ) (old new : TestState) → slice_get tests place ≡ Some old → weighed new ≡ weighed old
+pub set_weighs : (tests : List TestState) (place : ℕ) (old new : TestState) → slice_get tests place ≡ Some old → weighed new ≡ weighed old
     → failed_weight (slice_set tests place new) ≡ failed_weight tests
 set_weighs [] place old new found same = cc
 set_weighs (first ∷ tests) zero old new found same =
@@ -115,14 +115,14 @@ nothing_below limit ok = by_mode (mode_at limit 0) refl
 
 -- ---- while no reason stands, what failed is below the limit
 
-abbrev Below : State → Type 0
+abbrev pub Below : State → Type 0
 Below state = state.reason ≡ None → mode_at state.limit (failed_weight state.tests) ≡ None
 
 same_weight_below : (old : State) (place : ℕ) (test new : TestState) → Below old → slice_get old.tests place ≡ Some test → weighed new ≡ weighed test → Below (with_test old place new)
 same_weight_below old place test new below found same none = ap (mode_at old.limit) (set_weighs old.tests place test new found same) ∙ below none
 
 -- an attempt that ends and doesn't finish its test lets it weigh nothing
-unfinished_after : (state : State) (test : TestState) (ending : Record) → finishes state test ending ≡ false → is_finished (after_attempt state test ending) ≡ false
+pub unfinished_after : (state : State) (test : TestState) (ending : Record) → finishes state test ending ≡ false → is_finished (after_attempt state test ending) ≡ false
 unfinished_after state test ending e = ap (λ (b : Bool). is_finished_mark (cond b (marks.Finished state.reason) marks.Between)) e
 
 below_limited : (state : State) (finished : Bool) → (finished ≡ false → Below state) → Below (after_limit finished state)
@@ -164,11 +164,11 @@ step_below old new (events.Stopped reason) below happens =
     by_reason None = λ none. cc
     by_reason (Some kept) = λ none. cc
 
-run_below : (old : State) (run : List Event) (new : State) → Below old → Run old run new → Below new
+pub run_below : (old : State) (run : List Event) (new : State) → Below old → Run old run new → Below new
 run_below old [] new below happens = subst Below (sym happens) below
 run_below old (event ∷ run) new below happens = run_below happens.0 run new (step_below old happens.0 event below happens.1) happens.2
 
-below_initial : (plan : RunPlan) → IsPlan plan → Below (initial plan)
+pub below_initial : (plan : RunPlan) → IsPlan plan → Below (initial plan)
 below_initial plan ok none = ap (mode_at plan.limit) (waiting_weighs plan.tests) ∙ nothing_below plan.limit ok.limit
 
 -- ---- an unstopped assignment lets no reason come up

@@ -14,7 +14,7 @@ use Rattle.nextest_run_events_results.specs.declared.cancel_reason.CancelReason.
 use Rattle.nextest_run_events_results.specs.Result.{is_success}
 use Rattle.nextest_run_events_counters.specs.Rows.{fails_test}
 use Rattle.nextest_run_events_results.specs.declared.record.Record.{Record}
-use Rattle.test_runner_core_run_model.specs.RunPlan.{RunPlan, IsPlan, IsPositiveLimit, weight}
+use Rattle.test_runner_core_run_model.specs.RunPlan.{RunPlan, IsPlan, IsPositiveLimit}
 use Rattle.test_runner_core_run_model.specs.declared.run_test.RunTest.{RunTest}
 use Rattle.test_runner_core_run_model.specs.Assignment.{Assignment, some_test_fails}
 use Rattle.test_runner_core_run_model.specs.State.{TestState, State, initial, waiting, counts, is_finished_mark, failed_weight}
@@ -172,7 +172,7 @@ tracks_limited plan assigned state finished ok tracks going ended =
     stop mode reached =
         let now = subst (Standing plan assigned state) going tracks.standing in
         let limit_ok : IsPositiveLimit state.limit = subst IsPositiveLimit (sym tracks.keeps.limit) ok in
-        let failed = weighs_some (counts fails_test) (λ test. weight test.plan) state.tests (reaches state.limit (failed_weight state.tests) mode limit_ok reached) in
+        let failed = weighs_some (counts fails_test) (λ test. test.plan.weight) state.tests (reaches state.limit (failed_weight state.tests) mode limit_ok reached) in
         record {
           keeps = keeps_stopped plan assigned state (limit_reason mode) tracks.keeps;
           standing = by_limit plan assigned (stopped_by (limit_reason mode) state) mode

@@ -5,7 +5,7 @@ use Rattle.nextest_config_elements_choices.specs.declared.timeouts.FlakyResult.{
 use Rattle.nextest_run_events_results.specs.Result.{is_success}
 use Rattle.nextest_run_events_counters.specs.Rows.{fails_script, forbids_late}
 use Rattle.nextest_run_events_results.specs.declared.record.Record.{Record}
-use Rattle.test_runner_core_run_model.specs.RunPlan.{RunPlan, weight}
+use Rattle.test_runner_core_run_model.specs.RunPlan.{RunPlan}
 use Rattle.test_runner_core_run_model.specs.declared.run_test.RunTest.{RunTest}
 
 -- how each script ends, by its place, and each attempt of each test, by the test's place and the
@@ -41,7 +41,7 @@ some_test_fails (test ∷ tests) attempt = fails test (attempt 0) || some_test_f
 -- what the tests that fail weigh together
 abbrev pub failing_weight : List RunTest → (ℕ → ℕ → Record) → ℕ
 failing_weight [] attempt = 0
-failing_weight (test ∷ tests) attempt = (if fails test (attempt 0) then weight test else 0) + failing_weight tests (λ place. attempt (suc place))
+failing_weight (test ∷ tests) attempt = (if fails test (attempt 0) then test.weight else 0) + failing_weight tests (λ place. attempt (suc place))
 
 -- one of so many first scripts ends in a way that a test holds of
 abbrev pub some_script : (Record → Bool) → (ℕ → Record) → ℕ → Bool

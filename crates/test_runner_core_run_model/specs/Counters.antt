@@ -1,5 +1,7 @@
--- The counters of a run and its status: numbers of finished scripts and tests that count in a row.
+-- The counters of a run and its status: numbers of finished scripts and tests that count in a row,
+-- and what the failing ones weigh.
 use Rattle.std.specs.Prelude.{ℕ, length, count_by}
+use Rattle.nextest_config_elements_choices.specs.FailWeight.{capped}
 use Rattle.nextest_run_events_counters.specs.Rows as rows
 use Rattle.nextest_run_events_counters.specs.Summary.{summary_of}
 use Rattle.nextest_run_events_counters.specs.declared.run_stats.RunStats.{RunStats}
@@ -7,7 +9,7 @@ use Rattle.nextest_run_events_counters.specs.declared.summary.FinalRunStats.{Fin
 use Rattle.nextest_run_events_counters.specs.declared.summary.FinalRunStats.TheVariants as summed
 use Rattle.nextest_run_events_counters.specs.declared.summary.RunStatsFailureKind.{RunStatsFailureKind}
 use Rattle.nextest_run_events_counters.specs.declared.summary.RunStatsFailureKind.TheVariants as at
-use Rattle.test_runner_core_run_model.specs.State.{State, counts, is_finished}
+use Rattle.test_runner_core_run_model.specs.State.{State, counts, failed_weight, is_finished}
 
 -- the counters
 abbrev pub counters : State → RunStats
@@ -32,6 +34,7 @@ counters state =
       leaky_failed = count_by (counts rows.leaky_failed) state.tests;
       exec_failed = count_by (counts rows.exec_failed) state.tests;
       skipped = state.skipped;
+      failed_weight = capped (failed_weight state.tests);
       cancel_reason = state.reason;
     }
 

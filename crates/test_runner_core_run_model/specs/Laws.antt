@@ -2,15 +2,19 @@
 use Rattle.std.specs.Prelude.{◌≡◌, ◌↔◌, ℕ, ◌<◌, ◌≤◌, Bool, true, false, List, [], ◌∷◌, ◌++◌, Option, None, Some, Ok, Err, length, count_by, is_some, nat_le, slice_get, if◌then◌else◌}
 use Rattle.std.specs.List.{AllByRecursion}
 use Rattle.std.specs.Option.{IsSomeAnd}
+use Rattle.nextest_config_elements_choices.specs.declared.max_fail.TerminateMode.{TerminateMode}
+use Rattle.nextest_run_events_counters.specs.Summary.{failed_count}
 use Rattle.nextest_run_events_results.specs.Cancel.{gravity}
 use Rattle.nextest_run_events_results.specs.Result.{is_success}
 use Rattle.nextest_run_events_results.specs.declared.cancel_reason.CancelReason.{CancelReason}
 use Rattle.nextest_run_events_results.specs.declared.record.Record.{Record}
 use Rattle.test_runner_core_run_model.specs.RunPlan.{RunPlan, IsPlan}
-use Rattle.test_runner_core_run_model.specs.Assignment.{Assignment, IsUnstopped, due_status, first_success}
-use Rattle.test_runner_core_run_model.specs.State.{State, initial}
-use Rattle.test_runner_core_run_model.specs.Step.{step}
-use Rattle.test_runner_core_run_model.specs.Counters.{status}
+use Rattle.test_runner_core_run_model.specs.declared.run_test.RunTest.{RunTest}
+use Rattle.test_runner_core_run_model.specs.Assignment.{Assignment, IsUnstopped, due_status, failing_weight, first_success}
+use Rattle.test_runner_core_run_model.specs.State.{State, failed_weight, initial}
+use Rattle.test_runner_core_run_model.specs.Step.{limit_reason, step}
+use Rattle.test_runner_core_run_model.specs.Counters.{counters, status}
+use Rattle.test_runner_core_run_model.specs.FailLimit.{IsEnd, WeighOne, failing_count, limit_stop}
 use Rattle.test_runner_core_run_model.specs.Ends.{EndedWhole, final_state}
 use Rattle.test_runner_core_run_model.specs.Finishing.{KeepsReasons}
 use Rattle.test_runner_core_run_model.specs.Runs.{Run, Agrees, IsNoStop, IsNoMilder, is_complete, is_no_stop, most_events}
@@ -145,6 +149,32 @@ ReachesAnAssignedEnd =
 -- in a run from its beginning no test is over under a reason before a reason stands
 abbrev pub HasReasonsFirst : Type 0
 HasReasonsFirst = (plan : RunPlan) (events : List Event) (last : State) → Run (initial plan) events last → KeepsReasons last
+
+-- in a run from its beginning that isn't stopped, what failed weighs less than the limit
+abbrev pub StaysBelowLimit : Type 0
+StaysBelowLimit =
+    (plan : RunPlan) (events : List Event) (last : State)
+    → IsPlan plan → Run (initial plan) events last → last.reason ≡ None → limit_stop last ≡ None
+
+-- an event lets the limit's reason come up in such a run exactly where it is the end of an attempt,
+-- no reason stood before, and what failed weighs as much as the limit after it: so the first end
+-- with that does, and no other event
+abbrev pub StopsExactlyAtLimit : Type 0
+StopsExactlyAtLimit =
+    (plan : RunPlan) (events : List Event) (old new : State) (event : Event) (mode : TerminateMode)
+    → IsPlan plan → Run (initial plan) events old → step old event ≡ Ok new
+    → ((old.reason ≡ None) × (new.reason ≡ Some (limit_reason mode)))
+    ↔ (IsEnd event × (old.reason ≡ None) × (limit_stop new ≡ Some (limit_reason mode)))
+
+-- where each test weighs 1, what failed weighs as much as its number, in each state of a run
+abbrev pub WeighsItsNumber : Type 0
+WeighsItsNumber =
+    (plan : RunPlan) (events : List Event) (last : State)
+    → WeighOne plan.tests → Run (initial plan) events last → failed_weight last.tests ≡ failed_count (counters last)
+
+-- and so does what fails by an assignment
+abbrev pub WeighsItsFailures : Type 0
+WeighsItsFailures = (tests : List RunTest) (attempt : ℕ → ℕ → Record) → WeighOne tests → failing_weight tests attempt ≡ failing_count tests attempt
 
 -- an attempt, by its number, is a success
 abbrev pub is_success_at : (ℕ → Record) → ℕ → Bool

@@ -7,5 +7,6 @@ pub mod Runs
 pub mod Finishing
 pub mod Decisions
 pub mod Ends
+pub mod FailLimit
 pub mod Laws
 pub mod WorkedRows

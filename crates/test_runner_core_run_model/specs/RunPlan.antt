@@ -5,17 +5,13 @@ use Rattle.nextest_config_elements_choices.specs.declared.max_fail.MaxFail.{MaxF
 use Rattle.nextest_config_elements_choices.specs.declared.max_fail.MaxFail.TheVariants as limits
 use Rattle.test_runner_core_run_model.specs.declared.run_test.RunTest.{RunTest}
 
--- how many scripts are to run, the selected tests in their order, how many failing tests stop the
--- run, and how many tests were skipped
+-- how many scripts are to run, the selected tests in their order, at which weight failing tests
+-- stop the run, and how many tests were skipped
 pub record RunPlan : Type 0 where
   pub scripts : ℕ
   pub tests : List RunTest
   pub limit : MaxFail
   pub skipped : ℕ
-
--- what a test that fails adds to the sum that is compared with the limit
-abbrev pub weight : RunTest → ℕ
-weight test = 1
 
 -- a limit stops no run in which nothing failed
 abbrev pub IsPositiveLimit : MaxFail → Type 0

@@ -5,7 +5,7 @@ use Rattle.nextest_config_elements_choices.specs.declared.max_fail.MaxFail.{MaxF
 use Rattle.nextest_run_events_results.specs.declared.cancel_reason.CancelReason.{CancelReason}
 use Rattle.nextest_run_events_counters.specs.Rows.{Finished, fails_test}
 use Rattle.nextest_run_events_results.specs.declared.record.Record.{Record}
-use Rattle.test_runner_core_run_model.specs.RunPlan.{RunPlan, weight}
+use Rattle.test_runner_core_run_model.specs.RunPlan.{RunPlan}
 use Rattle.test_runner_core_run_model.specs.declared.run_test.RunTest.{RunTest}
 use Rattle.test_runner_core_run_model.specs.declared.mark.Mark.{Mark}
 use Rattle.test_runner_core_run_model.specs.declared.mark.Mark.TheVariants as marks
@@ -66,4 +66,4 @@ counts row test = is_finished test && option_map_or (λ ending. row (finished_as
 
 -- what the finished tests that count as failing weigh together
 abbrev pub failed_weight : List TestState → ℕ
-failed_weight = sum_by (λ test. if counts fails_test test then weight test.plan else 0)
+failed_weight = sum_by (λ test. if counts fails_test test then test.plan.weight else 0)

@@ -19,6 +19,7 @@ use Rattle.nextest_run_events_counters.specs.declared.summary.RunStatsFailureKin
 use Rattle.nextest_run_events_results.specs.declared.record.Record.{Record}
 use Rattle.nextest_run_events_results.specs.declared.record.RecordOutput.TheVariants as wrote
 use Rattle.test_runner_core_run_model.specs.RunPlan.{RunPlan}
+use Rattle.test_runner_core_run_model.specs.declared.run_test.RunTest.{RunTest}
 use Rattle.test_runner_core_run_model.specs.State.{State, initial}
 use Rattle.test_runner_core_run_model.specs.Counters.{counters, summary, status}
 use Rattle.test_runner_core_run_model.specs.Step.{step}
@@ -68,6 +69,7 @@ none_of scripts tests skipped =
       leaky_failed = 0;
       exec_failed = 0;
       skipped = skipped;
+      failed_weight = 0;
       cancel_reason = None;
     }
 
@@ -75,10 +77,19 @@ none_of scripts tests skipped =
 abbrev pub two : RunStats
 two = none_of 0 2 0
 
--- a plan of tests a and b
+-- a test of this weight
+abbrev pub weighing : ℕ → FlakyResult → ℕ → RunTest
+weighing tries flaky weight = record { tries = tries; flaky = flaky; weight = weight }
+
+-- a plan of tests a and b, which weigh 1 each
 abbrev pub two_tests : ℕ → FlakyResult → MaxFail → ℕ → RunPlan
 two_tests tries flaky limit scripts =
-    record { scripts = scripts; tests = record { tries = tries; flaky = flaky } ∷ record { tries = tries; flaky = flaky } ∷ []; limit = limit; skipped = 0 }
+    record { scripts = scripts; tests = weighing tries flaky 1 ∷ weighing tries flaky 1 ∷ []; limit = limit; skipped = 0 }
+
+-- a plan of a test a that weighs 3 and a test b that weighs 1, of which 3 stop the run
+abbrev pub weighed : ℕ → FlakyResult → RunPlan
+weighed tries flaky =
+    record { scripts = 0; tests = weighing tries flaky 3 ∷ weighing tries flaky 1 ∷ []; limit = limits.Count 3 modes.Wait; skipped = 0 }
 
 abbrev pub record_with : ExecutionResultDescription → Record
 record_with result = record { result = result; slow = false; nanos = 1; output = wrote.Streams None None }
@@ -98,12 +109,12 @@ pub record WorkedRows : Type 0 where
       ≡ Ok (record { counters = record two { finished_count = 2; passed = 2; flaky = 1 }; summary = summed.Success; status = 0 })
   -- the same with flaky-result = "fail"
   pub flaky_failed : ends (two_tests 2 flaky_rule.Fail limits.All 0) (attempt 0 fail_1 ++ attempt 0 ended.Pass ++ attempt 1 ended.Pass)
-      ≡ Ok (record { counters = record two { finished_count = 2; passed = 1; failed = 1 }; summary = summed.Failed (at.Test 2 0); status = 100 })
+      ≡ Ok (record { counters = record two { finished_count = 2; passed = 1; failed = 1; failed_weight = 1 }; summary = summed.Failed (at.Test 2 0); status = 100 })
   -- the first failure stops the run, whichever test it is
   pub a_failed : ends (two_tests 1 flaky_rule.Pass first_failure 0) (attempt 0 fail_1)
-      ≡ Ok (record { counters = record two { finished_count = 1; failed = 1; cancel_reason = Some why.TestFailure }; summary = summed.Failed (at.Test 2 1); status = 100 })
+      ≡ Ok (record { counters = record two { finished_count = 1; failed = 1; failed_weight = 1; cancel_reason = Some why.TestFailure }; summary = summed.Failed (at.Test 2 1); status = 100 })
   pub b_failed : ends (two_tests 1 flaky_rule.Pass first_failure 0) (attempt 1 fail_1)
-      ≡ Ok (record { counters = record two { finished_count = 1; failed = 1; cancel_reason = Some why.TestFailure }; summary = summed.Failed (at.Test 2 1); status = 100 })
+      ≡ Ok (record { counters = record two { finished_count = 1; failed = 1; failed_weight = 1; cancel_reason = Some why.TestFailure }; summary = summed.Failed (at.Test 2 1); status = 100 })
   -- nothing selected: nothing can fail
   pub nothing : ends (record { scripts = 0; tests = []; limit = first_failure; skipped = 2 }) []
       ≡ Ok (record { counters = none_of 0 0 2; summary = summed.NoTestsRun; status = 4 })
@@ -125,7 +136,7 @@ pub record WorkedRows : Type 0 where
   -- what runs when the limit stops the run may end
   pub immediate : ends (two_tests 1 flaky_rule.Pass (limits.Count 1 modes.Immediate) 0)
       (events.Started 0 ∷ events.Started 1 ∷ events.Ended 1 (record_with fail_1) ∷ events.Ended 0 (record_with (ended.Fail (failed_by.Abort (aborted_by.UnixSignal (pos 15) None)) false)) ∷ [])
-      ≡ Ok (record { counters = record two { finished_count = 2; failed = 2; cancel_reason = Some why.TestFailureImmediate }; summary = summed.Failed (at.Test 2 0); status = 100 })
+      ≡ Ok (record { counters = record two { finished_count = 2; failed = 2; failed_weight = 2; cancel_reason = Some why.TestFailureImmediate }; summary = summed.Failed (at.Test 2 0); status = 100 })
   -- a failing script stops the run
   pub script_failed : ends (two_tests 1 flaky_rule.Pass first_failure 1) (events.ScriptEnded 0 (record_with fail_1) ∷ [])
       ≡ Ok (record { counters = record (none_of 1 2 0) { setup_scripts_finished_count = 1; setup_scripts_failed = 1; cancel_reason = Some why.SetupScriptFailure }; summary = summed.Failed at.SetupScript; status = 105 })
@@ -137,4 +148,17 @@ pub record WorkedRows : Type 0 where
   pub out_of_order : ends (two_tests 1 flaky_rule.Pass first_failure 2) (events.ScriptEnded 1 (record_with ended.Pass) ∷ []) ≡ Err refused.OutOfOrder
   -- a stop finishes a test between two attempts
   pub between : ends (two_tests 2 flaky_rule.Pass limits.All 0) (attempt 0 fail_1 ++ events.Stopped why.Interrupt ∷ [])
-      ≡ Ok (record { counters = record two { finished_count = 1; failed = 1; cancel_reason = Some why.Interrupt }; summary = summed.Cancelled (Some why.Interrupt) (at.Test 2 1); status = 100 })
+      ≡ Ok (record { counters = record two { finished_count = 1; failed = 1; failed_weight = 1; cancel_reason = Some why.Interrupt }; summary = summed.Cancelled (Some why.Interrupt) (at.Test 2 1); status = 100 })
+  -- a alone weighs as much as the limit
+  pub heavy_failed : ends (weighed 1 flaky_rule.Pass) (attempt 0 fail_1)
+      ≡ Ok (record { counters = record two { finished_count = 1; failed = 1; failed_weight = 3; cancel_reason = Some why.TestFailure }; summary = summed.Failed (at.Test 2 1); status = 100 })
+  pub start_after_heavy : ends (weighed 1 flaky_rule.Pass) (attempt 0 fail_1 ++ events.Started 1 ∷ []) ≡ Err refused.Stopped
+  -- b doesn't, so that a goes on
+  pub light_failed : ends (weighed 1 flaky_rule.Pass) (attempt 1 fail_1 ++ attempt 0 fail_1)
+      ≡ Ok (record { counters = record two { finished_count = 2; failed = 2; failed_weight = 4; cancel_reason = Some why.TestFailure }; summary = summed.Failed (at.Test 2 0); status = 100 })
+  -- an attempt that fails weighs nothing where the test passes in the end, and the test weighs once
+  -- where it may not pass late
+  pub heavy_retried : ends (weighed 2 flaky_rule.Pass) (attempt 0 fail_1 ++ attempt 0 ended.Pass ++ attempt 1 ended.Pass)
+      ≡ Ok (record { counters = record two { finished_count = 2; passed = 2; flaky = 1 }; summary = summed.Success; status = 0 })
+  pub heavy_flaky : ends (weighed 2 flaky_rule.Fail) (attempt 0 fail_1 ++ attempt 0 ended.Pass)
+      ≡ Ok (record { counters = record two { finished_count = 1; failed = 1; failed_weight = 3; cancel_reason = Some why.TestFailure }; summary = summed.Failed (at.Test 2 1); status = 100 })

@@ -1,6 +1,6 @@
 //! What holds of all runs, and of the first success among tries. Each function does nothing, and
 //! its contract is the law.
-ghost use Rattle.test_runner_core_run_model.specs.Laws.{EndsWithDueStatus, AgreesWhereCut, EndsNoMilder, HasFourExactlyWhereDue, RefusesScripts, RefusesStarts, KeepsAReason, SucceedsWhole, EndsInOneState, ReachesTheOneState, StopsWhereDue, HasNext, HasAtMost, ReachesAnEnd, ReachesAnAssignedEnd, HasReasonsFirst, FindsFirstSuccess, HasOneFirstSuccess};
+ghost use Rattle.test_runner_core_run_model.specs.Laws.{EndsWithDueStatus, AgreesWhereCut, EndsNoMilder, HasFourExactlyWhereDue, RefusesScripts, RefusesStarts, KeepsAReason, SucceedsWhole, EndsInOneState, ReachesTheOneState, StopsWhereDue, HasNext, HasAtMost, ReachesAnEnd, ReachesAnAssignedEnd, HasReasonsFirst, FindsFirstSuccess, HasOneFirstSuccess, StaysBelowLimit, StopsExactlyAtLimit, WeighsItsNumber, WeighsItsFailures};
 ghost use Rattle.test_runner_core_run_model.specs.WorkedRows.{WorkedRows};
 
 /// Any complete run that agrees with an assignment and holds no stop event ends with that
@@ -34,7 +34,7 @@ pub fn status_zero()
 {}
 
 /// Any complete run that agrees with an assignment of which no script stops the run and whose
-/// failing tests don't reach the limit, and that holds no stop event, ends in one state, in
+/// failing tests weigh less than the limit, and that holds no stop event, ends in one state, in
 /// whatever order its events came. There is such a run.
 pub fn one_end()
     ensures one { EndsInOneState }
@@ -42,8 +42,8 @@ pub fn one_end()
 {}
 
 /// A complete run that agrees with an assignment and holds no stop event is stopped exactly where a
-/// script of the assignment stops it or the tests that fail by the assignment reach the limit, in
-/// whatever order its events came.
+/// script of the assignment stops it or the tests that fail by the assignment weigh as much as the
+/// limit, in whatever order its events came.
 pub fn reason_where_stopped()
     ensures { StopsWhereDue }
 {}
@@ -68,6 +68,22 @@ pub fn assigned_end()
 /// each run.
 pub fn reasons_first()
     ensures { HasReasonsFirst }
+{}
+
+/// The limit stops a run exactly at the first end of an attempt after which what failed weighs as
+/// much as the limit, in a run that isn't stopped yet: no other event lets the limit's reason come
+/// up, and as long as no reason stands, what failed weighs less.
+pub fn limit_stop()
+    ensures below { StaysBelowLimit }
+    ensures exactly { StopsExactlyAtLimit }
+{}
+
+/// Where each test weighs 1, weights are numbers: in each state of a run, what failed weighs as
+/// much as the number of tests that failed, and by each assignment what fails weighs as much as the
+/// number of tests that fail.
+pub fn weights_of_one()
+    ensures state { WeighsItsNumber }
+    ensures assignment { WeighsItsFailures }
 {}
 
 /// The first success among the attempts of a test is the one of which none before it is a success:

@@ -1,5 +1,5 @@
 // A selected test.
-use nextest_config_elements_choices::FlakyResult;
+use nextest_config_elements_choices::{FailWeight, FlakyResult};
 
 /// A selected test as a run sees it.
 #[derive(Clone, Copy, Debug, PartialEq, Eq)]
@@ -8,4 +8,6 @@ pub struct RunTest {
     pub tries: u32,
     /// What becomes of it where a later attempt than the first passes.
     pub flaky: FlakyResult,
+    /// What it weighs if it fails.
+    pub weight: FailWeight,
 }
