@@ -35,10 +35,10 @@ keys_at Profile = these (
     plain (codes "inherits") ∷ plain (codes "default-filter") ∷ at (codes "retries") Retries ∷ plain (codes "flaky-result") ∷
     plain (codes "test-threads") ∷ plain (codes "threads-required") ∷ plain (codes "run-extra-args") ∷
     plain (codes "status-level") ∷ plain (codes "final-status-level") ∷ plain (codes "failure-output") ∷
-    plain (codes "success-output") ∷ at (codes "fail-fast") FailFast ∷ at (codes "slow-timeout") SlowTimeout ∷
-    plain (codes "global-timeout") ∷ at (codes "leak-timeout") LeakTimeout ∷ at (codes "bench") ProfileBench ∷
-    at (codes "junit") ProfileJunit ∷ at (codes "overrides") Overrides ∷ at (codes "scripts") ScriptRules ∷
-    plain (codes "archive") ∷ [])
+    plain (codes "success-output") ∷ at (codes "fail-fast") FailFast ∷ plain (codes "fail-weight") ∷
+    at (codes "slow-timeout") SlowTimeout ∷ plain (codes "global-timeout") ∷ at (codes "leak-timeout") LeakTimeout ∷
+    at (codes "bench") ProfileBench ∷ at (codes "junit") ProfileJunit ∷ at (codes "overrides") Overrides ∷
+    at (codes "scripts") ScriptRules ∷ plain (codes "archive") ∷ [])
 keys_at FailFast = these (plain (codes "max-fail") ∷ plain (codes "terminate") ∷ [])
 keys_at Retries = these (
     plain (codes "backoff") ∷ plain (codes "count") ∷ plain (codes "delay") ∷ plain (codes "jitter") ∷ plain (codes "max-delay") ∷ [])
@@ -54,9 +54,9 @@ keys_at Overrides = any Anything
 keys_at Override = these (
     at (codes "platform") Platform ∷ plain (codes "filter") ∷ plain (codes "default-filter") ∷ plain (codes "priority") ∷
     plain (codes "threads-required") ∷ plain (codes "run-extra-args") ∷ at (codes "retries") Retries ∷
-    plain (codes "flaky-result") ∷ at (codes "slow-timeout") SlowTimeout ∷ at (codes "leak-timeout") LeakTimeout ∷
-    plain (codes "test-group") ∷ plain (codes "success-output") ∷ plain (codes "failure-output") ∷
-    at (codes "bench") OverrideBench ∷ at (codes "junit") OverrideJunit ∷ [])
+    plain (codes "flaky-result") ∷ plain (codes "fail-weight") ∷ at (codes "slow-timeout") SlowTimeout ∷
+    at (codes "leak-timeout") LeakTimeout ∷ plain (codes "test-group") ∷ plain (codes "success-output") ∷
+    plain (codes "failure-output") ∷ at (codes "bench") OverrideBench ∷ at (codes "junit") OverrideJunit ∷ [])
 keys_at Platform = these (plain (codes "host") ∷ plain (codes "target") ∷ [])
 keys_at OverrideBench = these (at (codes "slow-timeout") SlowTimeout ∷ [])
 keys_at OverrideJunit = these (
