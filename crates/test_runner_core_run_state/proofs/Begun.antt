@@ -10,10 +10,10 @@ use Rattle.nextest_run_events_results.specs.declared.record.Record.{Record}
 use Rattle.test_runner_core_run_model.specs.declared.run_test.RunTest.{RunTest}
 use Rattle.test_runner_core_run_model.specs.State.{TestState, waiting, counts, is_finished}
 use Rattle.test_runner_core_run_model.specs.Step.{finished_by}
-use Rattle.test_runner_core_run_state.specs.Counted.{with_finished, with_tests}
+use Rattle.test_runner_core_run_state.specs.Counted.{CountsNoTest, with_finished, with_tests_counted}
 use Rattle.test_runner_core_run_state.specs.Parts.{IsRunningAt, states_of}
 use Rattle.test_runner_core_run_state.specs.Records.{tests_with}
-use Rattle.test_runner_core_run_state.proofs.Tallies.{none_waits}
+use Rattle.test_runner_core_run_state.proofs.Tallies.{none_waits, none_weighs, unfinished_adds}
 
 pub begun : (planned : List RunTest) (tests : List TestState) → 0 < length tests → states_of planned tests ≡ tests
 begun planned [] some = absurd (omega (arith, some))
@@ -60,7 +60,7 @@ none_forgotten kept [] = refl
 none_forgotten kept (plan ∷ planned) = ap (λ rest. waiting plan ∷ rest) (none_forgotten (λ place. kept (suc place)) planned)
 
 -- and don't count
-pub none_counted : (planned : List RunTest) (stats : RunStats) → with_tests (map waiting planned) stats ≡ with_tests [] stats
+pub none_counted : (planned : List RunTest) (stats : RunStats) → with_tests_counted (map waiting planned) stats ≡ with_tests_counted [] stats
 none_counted planned stats =
     let e0 = none_waits is_finished (λ plan. refl) planned in
     let e1 = none_waits (counts rows.is_passed) (λ plan. refl) planned in
@@ -73,11 +73,12 @@ none_counted planned stats =
     let e8 = none_waits (counts rows.leaky) (λ plan. refl) planned in
     let e9 = none_waits (counts rows.leaky_failed) (λ plan. refl) planned in
     let e10 = none_waits (counts rows.exec_failed) (λ plan. refl) planned in
-    rw (e0, e1, e2, e3, e4, e5, e6, e7, e8, e9, e10) refl
+    let e11 = none_weighs planned in
+    rw (e0, e1, e2, e3, e4, e5, e6, e7, e8, e9, e10, e11) refl
 
 -- ---- the same of what stands for the tests
 
-pub counted_either : (planned : List RunTest) (tests : List TestState) (stats : RunStats) → with_tests tests stats ≡ with_tests (states_of planned tests) stats
+pub counted_either : (planned : List RunTest) (tests : List TestState) (stats : RunStats) → with_tests_counted tests stats ≡ with_tests_counted (states_of planned tests) stats
 counted_either planned [] stats = sym (none_counted planned stats)
 counted_either planned (test ∷ tests) stats = refl
 
@@ -97,26 +98,27 @@ set_either planned tests after now place changed is some sets =
     begun planned after still ∙ sets ∙ ap (λ them. slice_set them place changed) (sym (begun planned tests some) ∙ is)
 
 -- no test counts nothing
-pub none_yet : (stats : RunStats) → with_tests [] stats ≡ stats
-none_yet stats =
-    let e0 = same stats.finished_count in
-    let e1 = same stats.passed in
-    let e2 = same stats.passed_slow in
-    let e3 = same stats.passed_timed_out in
-    let e4 = same stats.flaky in
-    let e5 = same stats.failed in
-    let e6 = same stats.failed_slow in
-    let e7 = same stats.failed_timed_out in
-    let e8 = same stats.leaky in
-    let e9 = same stats.leaky_failed in
-    let e10 = same stats.exec_failed in
-    rw (e0, e1, e2, e3, e4, e5, e6, e7, e8, e9, e10) refl
-  where
-    same : (n : ℕ) → n + 0 ≡ n
-    same n = omega arith
+pub none_yet : (stats : RunStats) → CountsNoTest stats → with_tests_counted [] stats ≡ stats
+none_yet stats none =
+    let all : with_tests_counted [] stats ≡ record stats {
+      finished_count = stats.finished_count;
+      passed = stats.passed;
+      passed_slow = stats.passed_slow;
+      passed_timed_out = stats.passed_timed_out;
+      flaky = stats.flaky;
+      failed = stats.failed;
+      failed_slow = stats.failed_slow;
+      failed_timed_out = stats.failed_timed_out;
+      leaky = stats.leaky;
+      leaky_failed = stats.leaky_failed;
+      exec_failed = stats.exec_failed;
+      failed_weight = stats.failed_weight;
+    } =
+    rw (none.finished, none.passed, none.passed_slow, none.passed_timed_out, none.flaky, none.failed, none.failed_slow, none.failed_timed_out, none.leaky, none.leaky_failed, none.exec_failed, none.failed_weight) refl in
+    all
 
 -- nor does one that waits
 pub waiting_uncounted : (planned : List RunTest) (place : ℕ) (test : TestState) (stats : RunStats) → slice_get (map waiting planned) place ≡ Some test → stats ≡ with_finished test stats
 waiting_uncounted planned place test stats found =
     let it = waits planned place test found in
-    subst (λ test. stats ≡ with_finished test stats) (sym it.1) (sym (none_yet stats))
+    subst (λ test. stats ≡ with_finished test stats) (sym it.1) (sym (unfinished_adds (waiting it.0) stats refl))

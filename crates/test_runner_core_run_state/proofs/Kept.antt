@@ -103,18 +103,18 @@ last_told statuses =
 
 -- a finished test counts by its attempts as by their records
 pub counted_last : (plan : RunTest) (attempts : Attempts Status) (stats : RunStats) → attempts.flaky_result ≡ plan.flaky
-    → with_attempts attempts stats ≡ with_last_record plan (map record_of attempts.statuses) stats
+    → with_attempts attempts plan.weight stats ≡ with_last_record plan (map record_of attempts.statuses) stats
 counted_last plan attempts stats rule =
-    ap (λ (f : FlakyResult). option_map_or (λ (final : Status). with_test (record { result = final.result; slow = final.is_slow; late = nat_lt 1 (length attempts.statuses); flaky = f }) stats) (last attempts.statuses) stats) rule
-    ∙ ap (λ (n : ℕ). option_map_or (λ (final : Status). with_test (record { result = final.result; slow = final.is_slow; late = nat_lt 1 n; flaky = plan.flaky }) stats) (last attempts.statuses) stats) (sym (length_map record_of attempts.statuses))
+    ap (λ (f : FlakyResult). option_map_or (λ (final : Status). with_test (record { result = final.result; slow = final.is_slow; late = nat_lt 1 (length attempts.statuses); flaky = f }) plan.weight stats) (last attempts.statuses) stats) rule
+    ∙ ap (λ (n : ℕ). option_map_or (λ (final : Status). with_test (record { result = final.result; slow = final.is_slow; late = nat_lt 1 n; flaky = plan.flaky }) plan.weight stats) (last attempts.statuses) stats) (sym (length_map record_of attempts.statuses))
     ∙ by_last (last attempts.statuses)
     ∙ ap (λ (o : Option Record). option_map_or by_record o stats) (sym (last_told attempts.statuses))
   where
     by_record : Record → RunStats
-    by_record ending = with_test (record { result = ending.result; slow = ending.slow; late = nat_lt 1 (length (map record_of attempts.statuses)); flaky = plan.flaky }) stats
+    by_record ending = with_test (record { result = ending.result; slow = ending.slow; late = nat_lt 1 (length (map record_of attempts.statuses)); flaky = plan.flaky }) plan.weight stats
 
     by_last : (o : Option Status)
-        → option_map_or (λ (final : Status). with_test (record { result = final.result; slow = final.is_slow; late = nat_lt 1 (length (map record_of attempts.statuses)); flaky = plan.flaky }) stats) o stats
+        → option_map_or (λ (final : Status). with_test (record { result = final.result; slow = final.is_slow; late = nat_lt 1 (length (map record_of attempts.statuses)); flaky = plan.flaky }) plan.weight stats) o stats
         ≡ option_map_or by_record (option_map record_of o) stats
     by_last None = refl
     by_last (Some final) = refl
@@ -123,7 +123,7 @@ counted_last plan attempts stats rule =
 pub counted_once : (test : TestState) (stats : RunStats) → is_finished test ≡ true → 0 < length test.records → with_last_record test.plan test.records stats ≡ with_finished test stats
 counted_once test stats over some =
     let final = get_within test.records (length test.records - 1) (omega (arith, some)) in
-    ap (λ (o : Option Record). option_map_or (λ (ending : Record). with_test (finished_as test ending) stats) o stats) final.1
+    ap (λ (o : Option Record). option_map_or (λ (ending : Record). with_test (finished_as test ending) test.plan.weight stats) o stats) final.1
     ∙ sym (finished_adds test final.0 stats over final.1)
 
 -- what a test keeps after one more attempt

@@ -7,6 +7,7 @@ use Rattle.std.proofs.lemmas.List.{length-map, map-append}
 use Rattle.std.proofs.lemmas.Option.{slice_get-map}
 use Rattle.nextest_config_elements_choices.specs.MaxFail.{mode_at}
 use Rattle.nextest_config_elements_choices.specs.declared.max_fail.TerminateMode.{TerminateMode}
+use Rattle.nextest_config_elements_choices.specs.FailWeight.{capped}
 use Rattle.nextest_run_events_counters.specs.Rows as rows
 use Rattle.nextest_run_events_counters.specs.Rows.{Finished, fails_test}
 use Rattle.nextest_run_events_results.specs.Cancel.{graver_reason, is_inner}
@@ -16,7 +17,7 @@ use Rattle.nextest_run_events_results.specs.declared.cancel_reason.CancelReason.
 use Rattle.nextest_run_events_results.specs.declared.record.Record.{Record}
 use Rattle.test_runner_core_run_model.specs.Counters.{counters}
 use Rattle.test_runner_core_run_model.specs.Finishing.{KeepsReasons, finished_at, finishing, is_stopped_mark, newly_finished, places_among}
-use Rattle.test_runner_core_run_model.specs.RunPlan.{RunPlan, weight}
+use Rattle.test_runner_core_run_model.specs.RunPlan.{RunPlan}
 use Rattle.test_runner_core_run_model.specs.State.{State, TestState, counts, failed_weight, finished_as, initial, is_finished, last_record, waiting}
 use Rattle.test_runner_core_run_model.specs.Step.{after_attempt, after_limit, after_script, attempt_ended, end_from, finished_by, finishes, limit_reason, script_ended, start_from, start_of, state_after_start, state_after_stop, step, stopped_by, with_test}
 use Rattle.test_runner_core_run_model.specs.declared.event.Event.{Event}
@@ -91,8 +92,8 @@ count_with kept ends row tests =
 
 weight_with : (kept : ℕ → Record → Record) → KeepEnds kept → (tests : List TestState) → failed_weight (tests_with kept tests) ≡ failed_weight tests
 weight_with kept ends tests =
-    fold_with kept (λ test. if counts fails_test test then weight test.plan else 0)
-    (λ place test. ap (λ (b : Bool). if b then weight test.plan else 0) (counts_with (kept place) (ends place) fails_test test)) tests 0
+    fold_with kept (λ test. if counts fails_test test then test.plan.weight else 0)
+    (λ place test. ap (λ (b : Bool). if b then test.plan.weight else 0) (counts_with (kept place) (ends place) fails_test test)) tests 0
 
 finished_by_with : (kept : ℕ → Record → Record) (reason : CancelReason) (tests : List TestState) → tests_with kept (map (finished_by reason) tests) ≡ map (finished_by reason) (tests_with kept tests)
 finished_by_with kept reason [] = refl
@@ -332,4 +333,5 @@ counters_with kept ends state = λ i. record (counters state) {
   leaky = count_with kept ends rows.leaky state.tests i;
   leaky_failed = count_with kept ends rows.leaky_failed state.tests i;
   exec_failed = count_with kept ends rows.exec_failed state.tests i;
+  failed_weight = capped (weight_with kept ends state.tests i);
 }

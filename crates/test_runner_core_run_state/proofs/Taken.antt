@@ -1,5 +1,5 @@
 -- What a step that is taken says, and where it leads.
-use Rattle.std.proofs.Common.{◌≡◌, ℕ, Bool, true, false, cond, ltb, leb, eqb, not, ◌&&◌, List, ◌++◌, ◌∷◌, [], length, Option, Some, None, option_map, ◌<◌, Result, Ok, Err, refl, sym, ap, ◌∙◌, arith}
+use Rattle.std.proofs.Common.{◌≡◌, ℕ, Bool, true, false, cond, ltb, leb, eqb, not, ◌&&◌, List, ◌++◌, ◌∷◌, [], length, Option, Some, None, option_map, ◌<◌, Result, Ok, Err, refl, sym, ap, subst, ◌∙◌, arith}
 use Rattle.std.specs.Prelude.{slice_get, is_some}
 use Rattle.std.specs.Option.{option_map_or}
 use Rattle.std.proofs.lemmas.Bool.Decides.{nat_tests}
@@ -14,16 +14,19 @@ use Rattle.test_runner_core_run_model.specs.State.{TestState, State, failed_weig
 use Rattle.test_runner_core_run_model.specs.Finishing.{finished_at, stops_run}
 use Rattle.test_runner_core_run_model.specs.Step.{step, start_of, start_from, state_after_start, end_from, attempt_ended, after_attempt, finishes, limit_reason, after_limit, with_test, script_ended, after_script, state_after_stop, stopped_by}
 use Rattle.nextest_run_events_results.specs.Cancel.{is_inner}
+use Rattle.test_runner_core_run_model.specs.FailLimit.{StopsAtLimit}
 use Rattle.test_runner_core_run_model.specs.Decisions.{Decides, ShowsTest}
 use Rattle.test_runner_core_run_model.specs.declared.mark.Mark.{Mark}
 use Rattle.test_runner_core_run_model.specs.declared.mark.Mark.TheVariants as marks
 use Rattle.test_runner_core_run_model.specs.declared.event.Event.{Event}
 use Rattle.test_runner_core_run_model.specs.declared.event.Event.TheVariants as events
 use Rattle.test_runner_core_run_model.specs.declared.finished.Finished.{Finished}
+use Rattle.test_runner_core_run_model.specs.declared.step_refusal.StepRefusal.{StepRefusal}
 use Rattle.test_runner_core_run_model.specs.declared.step_refusal.StepRefusal.TheVariants as refused
 use Rattle.test_runner_core_run_model.proofs.Finishing.{ended_first, finishes_as, no_stop, start_stops_none, stop_is}
+use Rattle.test_runner_core_run_model.proofs.FailLimit.{end_at_limit}
 use Rattle.test_runner_core_run_state.specs.Parts.{IsStartable, IsRunningAt, ChangesAt}
-use Rattle.test_runner_core_run_state.specs.Progress.{TakesStep}
+use Rattle.test_runner_core_run_state.specs.Progress.{Takes, TakesStep}
 
 -- a mark that was found is that of a test
 pub shown_test : (state : State) (place : ℕ) (mark : Mark) → Some mark ≡ option_map (λ (t : TestState). t.mark) (slice_get state.tests place) → ShowsTest state place mark
@@ -173,3 +176,8 @@ limited_when state finished mode over free reached =
     ap (λ (b : Bool). after_limit b state) over
     ∙ ap (λ (b : Bool). cond (not b) (option_map_or (λ m. stopped_by (limit_reason m) state) (mode_at state.limit (failed_weight state.tests)) state) state) free
     ∙ ap (λ (o : Option TerminateMode). option_map_or (λ m. stopped_by (limit_reason m) state) o state) reached
+
+-- the end of an attempt that is taken, or refused, stops a run at its limit alone
+pub takes_at_limit : (old new : State) (place : ℕ) (ending : Record) (result : Result Finished StepRefusal) → Takes old (events.Ended place ending) result new → StopsAtLimit old new
+takes_at_limit old new place ending (Ok finished) it = end_at_limit old new place ending it.taken
+takes_at_limit old new place ending (Err refusal) it = subst (StopsAtLimit old) (sym it.1) (λ going below. going ∙ sym below)

@@ -1,9 +1,10 @@
 -- The counters and the number of running tests, from one state of the tests to the next.
-use Rattle.std.proofs.Common.{suc, ◌≡◌, ℕ, ◌+◌, ◌^◌, ◌≤◌, ◌<◌, ◌-◌, zero, Bool, true, false, cond, ◌&&◌, List, [], ◌∷◌, length, Option, Some, map, refl, ap, ◌∙◌, arith, count_by}
+use Rattle.std.proofs.Common.{suc, ◌≡◌, ℕ, ◌+◌, ◌^◌, ◌≤◌, ◌<◌, ◌-◌, zero, Bool, true, false, cond, ◌&&◌, List, [], ◌∷◌, length, Option, Some, map, refl, sym, ap, ◌∙◌, arith, count_by, sum_by}
 use Rattle.std.specs.Prelude.{slice_get, slice_set}
 use Rattle.std.specs.Int.{from_bool}
 use Rattle.std.specs.Option.{option_map_or}
 use Rattle.std.proofs.lemmas.List.Sums.{sum_by-cons, count_by-le-length}
+use Rattle.nextest_config_elements_choices.specs.FailWeight.{capped}
 use Rattle.nextest_config_elements_choices.specs.declared.max_fail.MaxFail.TheVariants as limits
 use Rattle.nextest_run_events_counters.specs.Counting.{CanCountTest, with_test}
 use Rattle.nextest_run_events_counters.specs.Rows as rows
@@ -12,12 +13,11 @@ use Rattle.nextest_run_events_counters.specs.declared.run_stats.RunStats.{RunSta
 use Rattle.nextest_run_events_results.specs.declared.cancel_reason.CancelReason.{CancelReason}
 use Rattle.nextest_run_events_results.specs.declared.record.Record.{Record}
 use Rattle.test_runner_core_run_model.specs.declared.run_test.RunTest.{RunTest}
-use Rattle.test_runner_core_run_model.specs.Counters.{counters}
 use Rattle.test_runner_core_run_model.specs.Step.{after_attempt, finishes}
 use Rattle.test_runner_core_run_model.specs.declared.mark.Mark.TheVariants as marks
-use Rattle.test_runner_core_run_model.specs.State.{TestState, State, waiting, counts, is_finished, is_running, is_running_mark, last_record, finished_as}
+use Rattle.test_runner_core_run_model.specs.State.{TestState, State, waiting, counts, failed_weight, is_finished, is_running, is_running_mark, last_record, finished_as}
 use Rattle.test_runner_core_run_state.specs.Counted.{with_finished, with_tests_counted}
-use Rattle.test_runner_core_run_state.proofs.Counts.{counted_set}
+use Rattle.test_runner_core_run_state.proofs.Counts.{counted_set, summed_set}
 
 -- some state with a reason
 abbrev pub with_reason : Option CancelReason → State
@@ -35,12 +35,29 @@ number_of true false e = cc
 number_of false true e = cc
 number_of false false e = refl
 
+-- what waits adds nothing to a sum, where it is nothing there
+pub waiting_sum : (of : TestState → ℕ) → ((plan : RunTest) → of (waiting plan) ≡ 0) → (plans : List RunTest) → sum_by of (map waiting plans) ≡ 0
+waiting_sum of nothing [] = refl
+waiting_sum of nothing (plan ∷ plans) =
+    rw (sum_by-cons of (waiting plan) (map waiting plans))
+    (let first = nothing plan in let rest = waiting_sum of nothing plans in omega (arith, first, rest))
+
 -- nothing that waits counts
 pub none_waits : (p : TestState → Bool) → ((plan : RunTest) → p (waiting plan) ≡ false) → (plans : List RunTest) → count_by p (map waiting plans) ≡ 0
-none_waits p unmet [] = refl
-none_waits p unmet (plan ∷ plans) =
-    rw (sum_by-cons (λ y. cond (p y) 1 0) (waiting plan) (map waiting plans))
-    (let first = bool_number (p (waiting plan)) (unmet plan) in let rest = none_waits p unmet plans in omega (arith, first, rest))
+none_waits p unmet = waiting_sum (λ y. cond (p y) 1 0) (λ plan. bool_number (p (waiting plan)) (unmet plan))
+
+-- nor weighs anything
+pub none_weighs : (plans : List RunTest) → failed_weight (map waiting plans) ≡ 0
+none_weighs = waiting_sum (λ y. cond (counts fails_test y) y.plan.weight 0) (λ plan. refl)
+
+-- a sum that was capped before it grew is the capped sum of all
+capped_more : (sum more : ℕ) → capped (capped sum + more) ≡ capped (sum + more)
+capped_more sum more = omega arith
+
+-- a sum that grows by a test's weight, where that fails
+pub weight_more : (fails : Bool) (weight old new : ℕ) → new ≡ old + cond fails weight 0 → capped new ≡ cond fails (capped (capped old + weight)) (capped old)
+weight_more true weight old new grown = ap capped grown ∙ sym (capped_more old weight)
+weight_more false weight old new grown = ap capped (grown ∙ omega arith)
 
 -- what isn't finished doesn't count
 pub unfinished_counts : (row : Finished → Bool) (test : TestState) → is_finished test ≡ false → counts row test ≡ false
@@ -54,6 +71,16 @@ row_set p tests place old new found unmet =
     let before = bool_number (p old) unmet in
     let after = number_of (p new) (p new) refl in
     omega (arith, change, before, after)
+
+-- what failed weighs after a write over a test that wasn't finished
+weight_set : (tests : List TestState) (place : ℕ) (old new : TestState) → slice_get tests place ≡ Some old → is_finished old ≡ false
+    → capped (failed_weight (slice_set tests place new))
+    ≡ cond (counts fails_test new) (capped (capped (failed_weight tests) + new.plan.weight)) (capped (failed_weight tests))
+weight_set tests place old new found open_still =
+    let weighed : TestState → ℕ = λ test. cond (counts fails_test test) test.plan.weight 0 in
+    let change = summed_set weighed tests place old new found in
+    let before : weighed old ≡ 0 = ap (λ (b : Bool). cond b old.plan.weight 0) (unfinished_counts fails_test old open_still) in
+    weight_more (counts fails_test new) new.plan.weight (failed_weight tests) (failed_weight (slice_set tests place new)) (omega (arith, change, before))
 
 -- the counters after a write over a test that wasn't finished
 pub counted_after : (tests : List TestState) (place : ℕ) (old new : TestState) (stats : RunStats) → slice_get tests place ≡ Some old → is_finished old ≡ false
@@ -70,6 +97,7 @@ counted_after tests place old new stats found open_still =
     let e8 = row_set (counts rows.leaky) tests place old new found (unfinished_counts rows.leaky old open_still) in
     let e9 = row_set (counts rows.leaky_failed) tests place old new found (unfinished_counts rows.leaky_failed old open_still) in
     let e10 = row_set (counts rows.exec_failed) tests place old new found (unfinished_counts rows.exec_failed old open_still) in
+    let e11 = weight_set tests place old new found open_still in
     cc
 
 -- a test that isn't finished adds nothing
@@ -86,14 +114,15 @@ unfinished_adds test stats open_still =
     let e8 = adds_none (counts rows.leaky test) stats.leaky (unfinished_counts rows.leaky test open_still) in
     let e9 = adds_none (counts rows.leaky_failed test) stats.leaky_failed (unfinished_counts rows.leaky_failed test open_still) in
     let e10 = adds_none (counts rows.exec_failed test) stats.exec_failed (unfinished_counts rows.exec_failed test open_still) in
-    rw (e0, e1, e2, e3, e4, e5, e6, e7, e8, e9, e10) refl
+    let e11 = unfinished_counts fails_test test open_still in
+    rw (e0, e1, e2, e3, e4, e5, e6, e7, e8, e9, e10, e11) refl
   where
     adds_none : (b : Bool) (n : ℕ) → b ≡ false → n + from_bool b ≡ n
     adds_none b n e = let zero_more : from_bool b ≡ 0 = ap from_bool e in omega (arith, zero_more)
 
 -- a finished test with a last record adds what it counts as
 pub finished_adds : (test : TestState) (ending : Record) (stats : RunStats) → is_finished test ≡ true → last_record test.records ≡ Some ending
-    → with_finished test stats ≡ with_test (finished_as test ending) stats
+    → with_finished test stats ≡ with_test (finished_as test ending) test.plan.weight stats
 finished_adds test ending stats over last =
     let e0 : from_bool (is_finished test) ≡ 1 = ap from_bool over in
     let e1 = row_of rows.is_passed in
@@ -106,16 +135,20 @@ finished_adds test ending stats over last =
     let e8 = row_of rows.leaky in
     let e9 = row_of rows.leaky_failed in
     let e10 = row_of rows.exec_failed in
+    let e11 = row_is fails_test in
     cc
   where
-    row_of : (row : Finished → Bool) → from_bool (counts row test) ≡ from_bool (row (finished_as test ending))
-    row_of row =
-        ap (λ (b : Bool). from_bool (b && option_map_or (λ ending. row (finished_as test ending)) (last_record test.records) false)) over
-        ∙ ap (λ (o : Option Record). from_bool (option_map_or (λ ending. row (finished_as test ending)) o false)) last
+    row_is : (row : Finished → Bool) → counts row test ≡ row (finished_as test ending)
+    row_is row =
+        ap (λ (b : Bool). b && option_map_or (λ ending. row (finished_as test ending)) (last_record test.records) false) over
+        ∙ ap (λ (o : Option Record). option_map_or (λ ending. row (finished_as test ending)) o false) last
 
--- no counter of fewer tests, and of fewer scripts, than numbers of the type is the greatest
-pub can_count_test : (state : State) → length state.tests + 1 < 2 ^ 64 → CanCountTest (counters state)
-can_count_test state few =
+    row_of : (row : Finished → Bool) → from_bool (counts row test) ≡ from_bool (row (finished_as test ending))
+    row_of row = ap from_bool (row_is row)
+
+-- tests that are fewer than numbers of the type leave room to count one more
+pub fits_more : (tests : List TestState) (stats : RunStats) → length tests + 1 < 2 ^ 64 → CanCountTest (with_tests_counted tests stats)
+fits_more tests stats few =
     record {
       finished = bound is_finished;
       passed = bound (counts rows.is_passed);
@@ -130,8 +163,8 @@ can_count_test state few =
       exec_failed = bound (counts rows.exec_failed);
     }
   where
-    bound : (p : TestState → Bool) → count_by p state.tests + 1 < 2 ^ 64
-    bound p = let most = count_by-le-length p state.tests in omega (arith, most, few)
+    bound : (p : TestState → Bool) → count_by p tests + 1 < 2 ^ 64
+    bound p = let most = count_by-le-length p tests in omega (arith, most, few)
 
 -- how far a test is after an attempt
 pub after_idle : (state : State) (test : TestState) (ending : Record) → is_running (after_attempt state test ending) ≡ false

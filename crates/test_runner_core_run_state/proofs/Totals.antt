@@ -1,4 +1,4 @@
--- The counters of a run, from one state to the next, and how many count as failing.
+-- The counters of a run, from one state to the next.
 use Rattle.std.proofs.Common.{◌≡◌, ℕ, ◌+◌, ◌≤◌, Bool, true, false, cond, ◌&&◌, List, [], ◌∷◌, length, Option, None, Some, map, refl, sym, ap, subst, ◌∙◌, arith, count_by}
 use Rattle.std.specs.Prelude.{slice_get, slice_set}
 use Rattle.std.specs.Int.{from_bool}
@@ -24,7 +24,7 @@ use Rattle.test_runner_core_run_state.specs.Counted.{with_finished, with_tests_c
 use Rattle.test_runner_core_run_state.specs.Parts.{ScriptState, state_of}
 use Rattle.test_runner_core_run_model.specs.declared.run_test.RunTest.{RunTest}
 use Rattle.test_runner_core_run_state.proofs.Kept.{length_map}
-use Rattle.test_runner_core_run_state.proofs.Tallies.{counted_after, none_waits}
+use Rattle.test_runner_core_run_state.proofs.Tallies.{counted_after, none_waits, none_weighs}
 
 -- the counters are those of the state that these parts keep
 abbrev pub Counts : ScriptState → List TestState → RunStats → MaxFail → Type 0
@@ -54,69 +54,6 @@ test_changed scripts tests place old new stats next limit own found open_still m
     tests_changed scripts tests (slice_set tests place new) stats next limit stats.cancel_reason own (length-set tests place new)
     (made ∙ ap (with_finished new) (sym (same_anew scripts tests stats limit own)) ∙ sym (counted_after tests place old new stats found open_still))
 
--- ---- how many fail
-
--- three counts are one where of three tests one at most is passed
-sum_three : {X : Type 0} (p q r s : X → Bool) (xs : List X) → ((x : X) → from_bool (p x) + from_bool (q x) + from_bool (r x) ≡ from_bool (s x))
-    → count_by p xs + count_by q xs + count_by r xs ≡ count_by s xs
-sum_three p q r s [] each = refl
-sum_three p q r s (x ∷ xs) each =
-    rw (sum_by-cons (λ y. cond (p y) 1 0) x xs, sum_by-cons (λ y. cond (q y) 1 0) x xs, sum_by-cons (λ y. cond (r y) 1 0) x xs, sum_by-cons (λ y. cond (s y) 1 0) x xs)
-    (let first = by_tests (p x) (q x) (r x) (s x) (each x) in let rest = sum_three p q r s xs each in omega (arith, first, rest))
-  where
-    as_number : (b : Bool) → from_bool b ≡ cond b 1 0
-    as_number true = refl
-    as_number false = refl
-
-    by_tests : (a b c d : Bool) → from_bool a + from_bool b + from_bool c ≡ from_bool d → ◌≡◌ {A = ℕ} (cond a 1 0 + cond b 1 0 + cond c 1 0) (cond d 1 0)
-    by_tests a b c d h =
-        let i = as_number a in let j = as_number b in let k = as_number c in let l = as_number d in omega (arith, h, i, j, k, l)
-
-test_once : (test : Finished) → from_bool (rows.is_failed test) + from_bool (rows.exec_failed test) + from_bool (rows.failed_timed_out test) ≡ from_bool (fails_test test)
-test_once test = by_result test.result test.late test.flaky
-  where
-    by_result : (result : ExecutionResultDescription) (late : Bool) (flaky : FlakyResult)
-        → from_bool (rows.is_failed (record { result = result; slow = test.slow; late = late; flaky = flaky })) + from_bool (rows.exec_failed (record { result = result; slow = test.slow; late = late; flaky = flaky }))
-        + from_bool (rows.failed_timed_out (record { result = result; slow = test.slow; late = late; flaky = flaky }))
-        ≡ from_bool (fails_test (record { result = result; slow = test.slow; late = late; flaky = flaky }))
-    by_result ended.Pass true rule.Pass = refl
-    by_result ended.Pass true rule.Fail = refl
-    by_result ended.Pass false flaky = refl
-    by_result (ended.Leak leak.Pass) true rule.Pass = refl
-    by_result (ended.Leak leak.Pass) true rule.Fail = refl
-    by_result (ended.Leak leak.Pass) false flaky = refl
-    by_result (ended.Leak leak.Fail) late flaky = refl
-    by_result (ended.Fail failure leaked) late flaky = refl
-    by_result ended.ExecFail late flaky = refl
-    by_result (ended.Timeout timeout.Pass) true rule.Pass = refl
-    by_result (ended.Timeout timeout.Pass) true rule.Fail = refl
-    by_result (ended.Timeout timeout.Pass) false flaky = refl
-    by_result (ended.Timeout timeout.Fail) late flaky = refl
-
-counted_as : (test : TestState) → from_bool (counts rows.is_failed test) + from_bool (counts rows.exec_failed test) + from_bool (counts rows.failed_timed_out test) ≡ from_bool (counts fails_test test)
-counted_as test = by_finished (is_finished test) (last_record test.records)
-  where
-    by_finished : (over : Bool) (final : Option Record)
-        → from_bool (over && option_map_or (λ ending. rows.is_failed (finished_as test ending)) final false) + from_bool (over && option_map_or (λ ending. rows.exec_failed (finished_as test ending)) final false)
-        + from_bool (over && option_map_or (λ ending. rows.failed_timed_out (finished_as test ending)) final false)
-        ≡ from_bool (over && option_map_or (λ ending. fails_test (finished_as test ending)) final false)
-    by_finished true None = refl
-    by_finished true (Some ending) = test_once (finished_as test ending)
-    by_finished false final = refl
-
--- what fails weighs what it counts
-pub failed_is : (state : State) → failed_count (counters state) ≡ failed_weight state.tests
-failed_is state = sum_three (counts rows.is_failed) (counts rows.exec_failed) (counts rows.failed_timed_out) (counts fails_test) state.tests counted_as
-
--- no more fail than are to run
-pub failed_fits : (scripts : ScriptState) (tests : List TestState) (stats : RunStats) (limit : MaxFail) → Counts scripts tests stats limit → failed_count stats ≤ stats.initial_run_count
-failed_fits scripts tests stats limit own =
-    let state = state_of scripts tests stats limit in
-    let number : failed_count stats ≡ failed_weight tests = ap failed_count own ∙ failed_is state in
-    let most : failed_weight tests ≤ length tests = count_by-le-length (counts fails_test) tests in
-    let all : stats.initial_run_count ≡ length tests = ap (λ (s : RunStats). s.initial_run_count) own in
-    omega (arith, number, most, all)
-
 -- ---- at the start
 
 -- nothing counted
@@ -142,14 +79,15 @@ nothing =
       leaky_failed = 0;
       exec_failed = 0;
       skipped = 0;
+      failed_weight = 0;
       cancel_reason = None;
     }
 
 -- counters of which each is 0 are those of nothing
-pub is_nothing : (d : RunStats) → (d.initial_run_count ≡ 0) × ((d.finished_count ≡ 0) × ((d.setup_scripts_initial_count ≡ 0) × ((d.setup_scripts_finished_count ≡ 0) × ((d.setup_scripts_passed ≡ 0) × ((d.setup_scripts_failed ≡ 0) × ((d.setup_scripts_exec_failed ≡ 0) × ((d.setup_scripts_timed_out ≡ 0) × ((d.passed ≡ 0) × ((d.passed_slow ≡ 0) × ((d.passed_timed_out ≡ 0) × ((d.flaky ≡ 0) × ((d.failed ≡ 0) × ((d.failed_slow ≡ 0) × ((d.failed_timed_out ≡ 0) × ((d.leaky ≡ 0) × ((d.leaky_failed ≡ 0) × ((d.exec_failed ≡ 0) × ((d.skipped ≡ 0) × (d.cancel_reason ≡ None))))))))))))))))))) → d ≡ nothing
+pub is_nothing : (d : RunStats) → (d.initial_run_count ≡ 0) × ((d.finished_count ≡ 0) × ((d.setup_scripts_initial_count ≡ 0) × ((d.setup_scripts_finished_count ≡ 0) × ((d.setup_scripts_passed ≡ 0) × ((d.setup_scripts_failed ≡ 0) × ((d.setup_scripts_exec_failed ≡ 0) × ((d.setup_scripts_timed_out ≡ 0) × ((d.passed ≡ 0) × ((d.passed_slow ≡ 0) × ((d.passed_timed_out ≡ 0) × ((d.flaky ≡ 0) × ((d.failed ≡ 0) × ((d.failed_slow ≡ 0) × ((d.failed_timed_out ≡ 0) × ((d.leaky ≡ 0) × ((d.leaky_failed ≡ 0) × ((d.exec_failed ≡ 0) × ((d.skipped ≡ 0) × ((d.failed_weight ≡ 0) × (d.cancel_reason ≡ None)))))))))))))))))))) → d ≡ nothing
 is_nothing d each =
-    let all : ◌≡◌ {A = RunStats} (record { initial_run_count = d.initial_run_count; finished_count = d.finished_count; setup_scripts_initial_count = d.setup_scripts_initial_count; setup_scripts_finished_count = d.setup_scripts_finished_count; setup_scripts_passed = d.setup_scripts_passed; setup_scripts_failed = d.setup_scripts_failed; setup_scripts_exec_failed = d.setup_scripts_exec_failed; setup_scripts_timed_out = d.setup_scripts_timed_out; passed = d.passed; passed_slow = d.passed_slow; passed_timed_out = d.passed_timed_out; flaky = d.flaky; failed = d.failed; failed_slow = d.failed_slow; failed_timed_out = d.failed_timed_out; leaky = d.leaky; leaky_failed = d.leaky_failed; exec_failed = d.exec_failed; skipped = d.skipped; cancel_reason = d.cancel_reason }) nothing =
-    rw (each.0, each.1.0, each.1.1.0, each.1.1.1.0, each.1.1.1.1.0, each.1.1.1.1.1.0, each.1.1.1.1.1.1.0, each.1.1.1.1.1.1.1.0, each.1.1.1.1.1.1.1.1.0, each.1.1.1.1.1.1.1.1.1.0, each.1.1.1.1.1.1.1.1.1.1.0, each.1.1.1.1.1.1.1.1.1.1.1.0, each.1.1.1.1.1.1.1.1.1.1.1.1.0, each.1.1.1.1.1.1.1.1.1.1.1.1.1.0, each.1.1.1.1.1.1.1.1.1.1.1.1.1.1.0, each.1.1.1.1.1.1.1.1.1.1.1.1.1.1.1.0, each.1.1.1.1.1.1.1.1.1.1.1.1.1.1.1.1.0, each.1.1.1.1.1.1.1.1.1.1.1.1.1.1.1.1.1.0, each.1.1.1.1.1.1.1.1.1.1.1.1.1.1.1.1.1.1.0, each.1.1.1.1.1.1.1.1.1.1.1.1.1.1.1.1.1.1.1) refl in
+    let all : ◌≡◌ {A = RunStats} (record { initial_run_count = d.initial_run_count; finished_count = d.finished_count; setup_scripts_initial_count = d.setup_scripts_initial_count; setup_scripts_finished_count = d.setup_scripts_finished_count; setup_scripts_passed = d.setup_scripts_passed; setup_scripts_failed = d.setup_scripts_failed; setup_scripts_exec_failed = d.setup_scripts_exec_failed; setup_scripts_timed_out = d.setup_scripts_timed_out; passed = d.passed; passed_slow = d.passed_slow; passed_timed_out = d.passed_timed_out; flaky = d.flaky; failed = d.failed; failed_slow = d.failed_slow; failed_timed_out = d.failed_timed_out; leaky = d.leaky; leaky_failed = d.leaky_failed; exec_failed = d.exec_failed; skipped = d.skipped; failed_weight = d.failed_weight; cancel_reason = d.cancel_reason }) nothing =
+    rw (each.0, each.1.0, each.1.1.0, each.1.1.1.0, each.1.1.1.1.0, each.1.1.1.1.1.0, each.1.1.1.1.1.1.0, each.1.1.1.1.1.1.1.0, each.1.1.1.1.1.1.1.1.0, each.1.1.1.1.1.1.1.1.1.0, each.1.1.1.1.1.1.1.1.1.1.0, each.1.1.1.1.1.1.1.1.1.1.1.0, each.1.1.1.1.1.1.1.1.1.1.1.1.0, each.1.1.1.1.1.1.1.1.1.1.1.1.1.0, each.1.1.1.1.1.1.1.1.1.1.1.1.1.1.0, each.1.1.1.1.1.1.1.1.1.1.1.1.1.1.1.0, each.1.1.1.1.1.1.1.1.1.1.1.1.1.1.1.1.0, each.1.1.1.1.1.1.1.1.1.1.1.1.1.1.1.1.1.0, each.1.1.1.1.1.1.1.1.1.1.1.1.1.1.1.1.1.1.0, each.1.1.1.1.1.1.1.1.1.1.1.1.1.1.1.1.1.1.1.0, each.1.1.1.1.1.1.1.1.1.1.1.1.1.1.1.1.1.1.1.1) refl in
     all
 
 pub fresh : (planned n skipped : ℕ) (scripts : ScriptState) (tests : List TestState) (plans : List RunTest) (limit : MaxFail) (none : RunStats)
@@ -174,4 +112,5 @@ fresh planned n skipped scripts tests plans limit none scripts_are tests_are cou
         let e8 = none_waits (counts rows.leaky) (λ plan. refl) plans in
         let e9 = none_waits (counts rows.leaky_failed) (λ plan. refl) plans in
         let e10 = none_waits (counts rows.exec_failed) (λ plan. refl) plans in
-        rw (many, e0, e1, e2, e3, e4, e5, e6, e7, e8, e9, e10) refl
+        let e11 = none_weighs plans in
+        rw (many, e0, e1, e2, e3, e4, e5, e6, e7, e8, e9, e10, e11) refl

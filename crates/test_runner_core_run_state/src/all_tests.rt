@@ -7,7 +7,7 @@ ghost use Rattle.nextest_run_events_counters.specs.Counting.{CanCountTest};
 ghost use Rattle.test_runner_core_run_model.specs.State.{TestState, State, waiting, is_running};
 ghost use Rattle.test_runner_core_run_model.specs.Step.{after_attempt, finished_by, finishes};
 ghost use Rattle.test_runner_core_run_model.specs.declared.mark.Mark.TheVariants as marks;
-ghost use Rattle.test_runner_core_run_state.specs.Counted.{with_finished, with_tests, CountsNoTest};
+ghost use Rattle.test_runner_core_run_state.specs.Counted.{with_finished, with_tests_counted, CountsNoTest};
 ghost use Rattle.test_runner_core_run_state.specs.Parts.{HasAttempts, IsStartable, IsRunningAt, ChangesAt};
 ghost use Rattle.test_runner_core_run_state.specs.Records.{tests_with, unwritten_at};
 
@@ -162,7 +162,7 @@ impl<A: KeepAttempts> AllTests<A> {
     // Counts all tests that are finished.
     pub(crate) fn count_all(&self, stats: &mut RunStats)
         requires uncounted { CountsNoTest stats.old }
-        ensures { stats.new ≡ with_tests self.now stats.old }
+        ensures { stats.new ≡ with_tests_counted self.now stats.old }
     {
         self.tests.count_all(stats);
     }

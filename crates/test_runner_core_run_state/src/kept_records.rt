@@ -103,12 +103,15 @@ impl KeepAttempts for KeptRecords {
         let late = records.len() > 1;
         if let Some(last) = records.last() {
             match last.whole() {
-                Some(whole) => stats.count_test(&whole.result, whole.slow, late, plan.flaky),
+                Some(whole) => {
+                    stats.count_test(&whole.result, whole.slow, late, plan.flaky, plan.weight);
+                }
                 None => stats.count_test(
                     &ExecutionResultDescription::Pass,
                     last.slow(),
                     late,
                     plan.flaky,
+                    plan.weight,
                 ),
             }
         }

@@ -119,9 +119,9 @@ impl KeepAttempts for KeptStatuses {
         })
     }
 
-    fn count_in(&self, _plan: RunTest, stats: &mut RunStats) {
+    fn count_in(&self, plan: RunTest, stats: &mut RunStats) {
         if let Some(attempts) = self.attempts() {
-            stats.on_test_finished(attempts);
+            stats.on_test_finished(attempts, plan.weight);
         }
     }
 

@@ -11,7 +11,7 @@ ghost use Rattle.test_runner_core_run_model.specs.Runs.{is_complete};
 ghost use Rattle.test_runner_core_run_model.specs.State.{TestState, initial, is_finished, is_running};
 ghost use Rattle.test_runner_core_run_model.specs.Step.{after_limit, stopped_by};
 ghost use Rattle.test_runner_core_run_model.specs.declared.event.Event.TheVariants as events;
-ghost use Rattle.test_runner_core_run_state.specs.Counted.{CountsNoTest, with_tests_counted, with_tests};
+ghost use Rattle.test_runner_core_run_state.specs.Counted.{CountsNoTest, with_tests_counted};
 ghost use Rattle.test_runner_core_run_state.specs.Parts.{HasAttempts, IsRunningAt};
 ghost use Rattle.test_runner_core_run_state.specs.Progress.{Takes, Starts, EndsAttempt};
 ghost use Rattle.test_runner_core_run_state.specs.Records.{state_with, unwritten_at};
@@ -258,8 +258,8 @@ impl<A: KeepAttempts> Progress<A> {
         }
     }
 
-    // Why a run that isn't stopped is stopped now that a test finished, if it is: what failed
-    // reaches the limit.
+    // Why a run that isn't stopped is stopped now that a test finished, if it is: what failed weighs
+    // as much as the limit.
     fn limit_stop(&self, finished: bool) -> Option<CancelReason>
         ensures { after_limit finished self.now
             ≡ option_map_or (λ new. stopped_by new self.now) result self.now }
@@ -267,9 +267,7 @@ impl<A: KeepAttempts> Progress<A> {
         if !finished || self.stats.cancel_reason.is_some() {
             return None;
         }
-        // No more fail than there are: so their number fits its type.
-        let _count = self.tests.len();
-        match self.limit.is_exceeded(self.stats.failed_count()) {
+        match self.limit.is_exceeded(self.stats.failed_weight) {
             Some(TerminateMode::Wait) => Some(CancelReason::TestFailure),
             Some(TerminateMode::Immediate) => Some(CancelReason::TestFailureImmediate),
             None => None,
@@ -329,8 +327,8 @@ impl<A: KeepAttempts> Progress<A> {
         self.stats.cancel_reason.is_some()
     }
 
-    /// How many attempts the test at a place has at most, and its flaky rule; `None` where the plan
-    /// has no such place.
+    /// How many attempts the test at a place has at most, its flaky rule and its weight; `None`
+    /// where the plan has no such place.
     pub fn planned(&self, test: usize) -> Option<RunTest>
         ensures { result ≡ option_map (λ t. t.plan) (slice_get self.now.tests test) }
     {
@@ -375,7 +373,7 @@ impl Progress<KeptRecords> {
 fn without_tests(stats: &RunStats) -> RunStats
     ensures none { CountsNoTest result }
     ensures rest { (tests : List TestState)
-        → with_tests tests result ≡ with_tests_counted tests stats.now }
+        → with_tests_counted tests result ≡ with_tests_counted tests stats.now }
 {
     RunStats {
         initial_run_count: stats.initial_run_count,

@@ -6,7 +6,7 @@ ghost use Rattle.nextest_run_events_counters.specs.Counting.{CanCountTest};
 ghost use Rattle.test_runner_core_run_model.specs.State.{TestState, State, waiting};
 ghost use Rattle.test_runner_core_run_model.specs.Step.{after_attempt, finished_by, finishes};
 ghost use Rattle.test_runner_core_run_model.specs.declared.mark.Mark.TheVariants as marks;
-ghost use Rattle.test_runner_core_run_state.specs.Counted.{with_finished, with_tests, CountsNoTest};
+ghost use Rattle.test_runner_core_run_state.specs.Counted.{with_finished, with_tests_counted, CountsNoTest};
 ghost use Rattle.test_runner_core_run_state.specs.Parts.{HasAttempts, IsStartable, IsRunningAt, ChangesAt, states_of};
 ghost use Rattle.test_runner_core_run_state.specs.Records.{tests_with, unwritten_at};
 
@@ -177,7 +177,7 @@ impl<A: KeepAttempts> TestStates<A> {
     // Counts all tests that are finished.
     pub(crate) fn count_all(&self, stats: &mut RunStats)
         requires uncounted { CountsNoTest stats.old }
-        ensures { stats.new ≡ with_tests self.now stats.old }
+        ensures { stats.new ≡ with_tests_counted self.now stats.old }
     {
         count_each(self.tests.as_slice(), stats);
     }
@@ -325,7 +325,7 @@ fn finish_each<A: KeepAttempts>(tests: &mut [TestProgress<A>], reason: CancelRea
 fn count_each<A: KeepAttempts>(tests: &[TestProgress<A>], stats: &mut RunStats)
     requires uncounted { CountsNoTest stats.old }
     requires bound { length tests.now < 2 ^ 63 }
-    ensures { stats.new ≡ with_tests tests.now stats.old }
+    ensures { stats.new ≡ with_tests_counted tests.now stats.old }
 {
     for test in tests {
         test.count_in(stats);

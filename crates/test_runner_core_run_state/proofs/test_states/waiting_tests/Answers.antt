@@ -19,7 +19,8 @@ loop-plan-preserved g c =
     c.in_ok-push.ensures.items
     ∙ ap (λ (tests : List TestState). tests ++ c.new.result ∷ []) c.loop-plan.invariant
     ∙ ap (λ (test : TestState). map waiting (take c.loop-plan.plan-index c.args.planned.now) ++ test ∷ []) c.new.ensures
-    ∙ sym (map_more waiting c.args.planned.now c.loop-plan.plan-index _ c.loop-plan-test.true)
+    ∙ ap (λ (plan : RunTest). map waiting (take c.loop-plan.plan-index c.args.planned.now) ++ waiting plan ∷ []) c.plan-item.is
+    ∙ sym (map_more waiting c.args.planned.now c.loop-plan.plan-index c.plan-item.result c.loop-plan-test.true)
 
 pub returns : goal.returns
 returns g c =

@@ -5,13 +5,14 @@ use Rattle.std.proofs.lemmas.Option.{slice_get_within}
 use Rattle.nextest_run_events_counters.specs.Counting.{CanCountTest}
 use Rattle.nextest_run_events_counters.specs.declared.run_stats.RunStats.{RunStats}
 use Rattle.nextest_run_events_results.specs.declared.cancel_reason.CancelReason.{CancelReason}
+use Rattle.test_runner_core_run_model.specs.Counters.{counters}
 use Rattle.test_runner_core_run_model.specs.State.{TestState, State, is_finished_mark}
 use Rattle.test_runner_core_run_model.specs.Step.{after_attempt}
 use Rattle.test_runner_core_run_state.specs.Parts.{IsRunningAt, state_of}
 use Rattle.test_runner_core_run_state.specs.Progress.{EndsAttempt}
 use Rattle.test_runner_core_run_state.specs.contracts.progress.Progress.{the_view}
 use Rattle.test_runner_core_run_state.proofs.Counts.{written}
-use Rattle.test_runner_core_run_state.proofs.Tallies.{can_count_test}
+use Rattle.test_runner_core_run_state.proofs.Tallies.{fits_more}
 use Rattle.test_runner_core_run_state.proofs.Totals.{Counts, test_changed}
 use Rattle.test_runner_core_run_state.proofs.progress.Progress.end.Goals as goal
 
@@ -28,7 +29,7 @@ pub count_at-requires-clause-below_maximum : goal.count_at-requires-clause-below
 count_at-requires-clause-below_maximum g c =
     let state = the_view g.row.A g.row.A-Ending g.A.KeepAttempts c.self.inside in
     let bound = c.end-finished.ensures.bound in
-    subst CanCountTest (sym c.self.invariant) (can_count_test state (omega (arith, bound)))
+    subst CanCountTest (sym c.self.invariant) (fits_more state.tests (counters state) (omega (arith, bound)))
 
 pub invariant_of-self : goal.invariant_of-self
 invariant_of-self g c =
