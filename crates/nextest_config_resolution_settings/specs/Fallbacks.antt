@@ -58,6 +58,9 @@ abbrev pub global_timeout : GlobalTimeout
 global_timeout = record { period = thirty_years }
 
 -- how each test is run
+abbrev pub fail_weight : ℕ
+fail_weight = 1
+
 abbrev pub flaky_result : FlakyResult
 flaky_result = flaky.Pass
 

@@ -43,6 +43,9 @@ global_timeout mode.Test = run_global_timeout
 global_timeout mode.Benchmark = bench_global_timeout
 
 -- how each test is run
+abbrev pub fail_weight : ProfileConfig → Option ℕ
+fail_weight profile = profile.test.fail_weight
+
 abbrev pub flaky_result : ProfileConfig → Option FlakyResult
 flaky_result profile = profile.test.flaky_result
 

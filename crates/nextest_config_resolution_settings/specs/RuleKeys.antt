@@ -20,6 +20,9 @@ retries rule = rule.config.retries
 abbrev pub flaky_result : PlacedOverride → Option FlakyResult
 flaky_result rule = rule.config.flaky_result
 
+abbrev pub fail_weight : PlacedOverride → Option ℕ
+fail_weight rule = rule.config.fail_weight
+
 abbrev pub leak_timeout : PlacedOverride → Option LeakTimeout
 leak_timeout rule = rule.config.leak_timeout
 

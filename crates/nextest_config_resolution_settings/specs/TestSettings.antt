@@ -37,6 +37,8 @@ pub record AreSettings {S : Type 0} (Tells : S → Source → Type 0) (mode : Ne
   pub retries : IsTracked Tells id_of rule.retries key.retries layers.overrides layers.chain fallback.retries settings.retries
   pub flaky_result : IsTracked Tells id_of rule.flaky_result key.flaky_result layers.overrides layers.chain
       fallback.flaky_result settings.flaky_result
+  pub fail_weight : IsTracked Tells id_of rule.fail_weight key.fail_weight layers.overrides layers.chain
+      fallback.fail_weight settings.fail_weight
   pub slow_timeout : IsTracked Tells id_of (rule.slow_timeout mode) (key.slow_timeout mode) layers.overrides layers.chain
       (fallback.slow_timeout mode) settings.slow_timeout
   pub leak_timeout : IsTracked Tells id_of rule.leak_timeout key.leak_timeout layers.overrides layers.chain
@@ -68,6 +70,7 @@ pub record AreSame {S T : Type 0} (one : TestSettings S) (other : TestSettings T
   pub run_extra_args : one.run_extra_args.0.now ≡ other.run_extra_args.0.now
   pub retries : one.retries.0 ≡ other.retries.0
   pub flaky_result : one.flaky_result.0 ≡ other.flaky_result.0
+  pub fail_weight : one.fail_weight.0 ≡ other.fail_weight.0
   pub slow_timeout : one.slow_timeout.0 ≡ other.slow_timeout.0
   pub leak_timeout : one.leak_timeout.0 ≡ other.leak_timeout.0
   pub test_group : group_of one.test_group.0 ≡ group_of other.test_group.0
@@ -86,6 +89,7 @@ pub record HaveSameSources {S : Type 0} (Tells : S → Source → Type 0) (one o
   pub run_extra_args : HaveOneSource Tells one.run_extra_args.1 other.run_extra_args.1
   pub retries : HaveOneSource Tells one.retries.1 other.retries.1
   pub flaky_result : HaveOneSource Tells one.flaky_result.1 other.flaky_result.1
+  pub fail_weight : HaveOneSource Tells one.fail_weight.1 other.fail_weight.1
   pub slow_timeout : HaveOneSource Tells one.slow_timeout.1 other.slow_timeout.1
   pub leak_timeout : HaveOneSource Tells one.leak_timeout.1 other.leak_timeout.1
   pub test_group : HaveOneSource Tells one.test_group.1 other.test_group.1

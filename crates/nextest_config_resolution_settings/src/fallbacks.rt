@@ -3,8 +3,8 @@ ghost use Rattle.std.specs.Prelude.{◌≡◌};
 ghost use Rattle.nextest_config_resolution_settings.specs.Fallbacks as fallback;
 
 use nextest_config_elements_choices::{
-    FinalStatusLevel, FlakyResult, LeakTimeoutResult, MaxFail, NextestRunMode, StatusLevel,
-    TestOutputDisplay,
+    FailWeight, FinalStatusLevel, FlakyResult, LeakTimeoutResult, MaxFail, NextestRunMode,
+    StatusLevel, TestOutputDisplay,
 };
 use nextest_config_elements_values::{
     ConfigDuration, GlobalTimeout, JunitFlakyFailStatus, LeakTimeout, ReportSkipPolicy,
@@ -30,6 +30,13 @@ pub fn flaky_result() -> FlakyResult
     ensures { result ≡ fallback.flaky_result }
 {
     FlakyResult::Pass
+}
+
+/// `fail-weight`: 1, so that what failing tests weigh together is their number.
+pub fn fail_weight() -> FailWeight
+    ensures { result ≡ fallback.fail_weight }
+{
+    FailWeight::default()
 }
 
 /// `retries`: none.

@@ -2,7 +2,7 @@
 //! profile.
 use crate::layers::{Sets, Setting};
 use nextest_config_elements_choices::{
-    FinalStatusLevel, FlakyResult, MaxFail, StatusLevel, TestOutputDisplay,
+    FailWeight, FinalStatusLevel, FlakyResult, MaxFail, StatusLevel, TestOutputDisplay,
 };
 use nextest_config_elements_identifiers::TestGroup;
 use nextest_config_elements_values::{
@@ -44,6 +44,23 @@ impl Sets<FlakyResultKey> for ProfileConfig {
 
     fn value(&self) -> Option<&FlakyResult> {
         self.test.flaky_result.as_ref()
+    }
+}
+
+/// `fail-weight`.
+pub struct FailWeightKey;
+
+impl Setting for FailWeightKey {
+    type Value = FailWeight;
+}
+
+impl Sets<FailWeightKey> for ProfileConfig {
+    ghost use Rattle.nextest_config_resolution_settings.specs.Keys.{fail_weight};
+
+    ghost value = { fail_weight };
+
+    fn value(&self) -> Option<&FailWeight> {
+        self.test.fail_weight.as_ref()
     }
 }
 

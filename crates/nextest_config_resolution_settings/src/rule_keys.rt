@@ -1,12 +1,12 @@
 // The settings of a rule, by their keys.
 use crate::keys::{
-    BenchSlowTimeoutKey, FailureOutputKey, FlakyResultKey, JunitFlakyFailStatusKey,
+    BenchSlowTimeoutKey, FailWeightKey, FailureOutputKey, FlakyResultKey, JunitFlakyFailStatusKey,
     JunitReportSkippedKey, JunitStoreFailureOutputKey, JunitStoreSuccessOutputKey, LeakTimeoutKey,
     PriorityKey, RetriesKey, RunExtraArgsKey, SlowTimeoutKey, SuccessOutputKey, TestGroupKey,
     ThreadsRequiredKey,
 };
 use crate::layers::{InProfile, Rule, Sets};
-use nextest_config_elements_choices::{FlakyResult, TestOutputDisplay};
+use nextest_config_elements_choices::{FailWeight, FlakyResult, TestOutputDisplay};
 use nextest_config_elements_identifiers::TestGroup;
 use nextest_config_elements_values::{
     JunitFlakyFailStatus, LeakTimeout, ReportSkipPolicy, RetryPolicy, SlowTimeout, TestPriority,
@@ -52,6 +52,16 @@ impl Sets<FlakyResultKey> for PlacedOverride {
 
     fn value(&self) -> Option<&FlakyResult> {
         self.config.flaky_result.as_ref()
+    }
+}
+
+impl Sets<FailWeightKey> for PlacedOverride {
+    ghost use Rattle.nextest_config_resolution_settings.specs.RuleKeys.{fail_weight};
+
+    ghost value = { fail_weight };
+
+    fn value(&self) -> Option<&FailWeight> {
+        self.config.fail_weight.as_ref()
     }
 }
 

@@ -1,7 +1,7 @@
 // The settings of a test.
 ghost use Rattle.std.specs.Prelude.{◌≡◌};
 
-use nextest_config_elements_choices::{FlakyResult, TestOutputDisplay};
+use nextest_config_elements_choices::{FailWeight, FlakyResult, TestOutputDisplay};
 use nextest_config_elements_identifiers::CustomTestGroup;
 use nextest_config_elements_values::{
     JunitFlakyFailStatus, LeakTimeout, ReportSkipPolicy, RetryPolicy, SlowTimeout, TestPriority,
@@ -36,6 +36,8 @@ pub struct TestSettings<'p, Source = ()> {
     pub retries: (RetryPolicy, Source),
     /// `flaky-result`: what becomes of it where it passes on a later attempt than its first.
     pub flaky_result: (FlakyResult, Source),
+    /// `fail-weight`: how much it weighs where it fails.
+    pub fail_weight: (FailWeight, Source),
     /// `slow-timeout`: when it is slow, and when it is ended for that.
     pub slow_timeout: (SlowTimeout, Source),
     /// `leak-timeout`: how long handles may stay open behind it.
@@ -69,6 +71,7 @@ impl<'p, Source: Copy> Clone for TestSettings<'p, Source> {
             run_extra_args: both(&self.run_extra_args),
             retries: both(&self.retries),
             flaky_result: both(&self.flaky_result),
+            fail_weight: both(&self.fail_weight),
             slow_timeout: both(&self.slow_timeout),
             leak_timeout: both(&self.leak_timeout),
             test_group: both(&self.test_group),
@@ -123,6 +126,13 @@ impl<'p, Source> TestSettings<'p, Source> {
         ensures { result ≡ self.now.flaky_result.0 }
     {
         self.flaky_result.0
+    }
+
+    /// `fail-weight`: how much it weighs where it fails.
+    pub fn fail_weight(&self) -> FailWeight
+        ensures { result ≡ self.now.fail_weight.0 }
+    {
+        self.fail_weight.0
     }
 
     /// `slow-timeout`: when it is slow, and when it is ended for that.

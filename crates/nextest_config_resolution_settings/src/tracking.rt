@@ -12,7 +12,7 @@ ghost use Rattle.nextest_config_resolution_settings.specs.Tracked.{IsTracked};
 
 use crate::fallbacks;
 use crate::keys::{
-    BenchSlowTimeoutKey, FailureOutputKey, FlakyResultKey, JunitFlakyFailStatusKey,
+    BenchSlowTimeoutKey, FailWeightKey, FailureOutputKey, FlakyResultKey, JunitFlakyFailStatusKey,
     JunitReportSkippedKey, JunitStoreFailureOutputKey, JunitStoreSuccessOutputKey, LeakTimeoutKey,
     PriorityKey, RetriesKey, RunExtraArgsKey, RunWrapperKey, SlowTimeoutKey, SuccessOutputKey,
     TestGroupKey, ThreadsRequiredKey,
@@ -58,6 +58,7 @@ pub fn settings_by<'l, 'c, T: TrackSource<'c>>(
         run_extra_args: run_extra_args_by(layers),
         retries: tracked::<RetriesKey, T>(layers, fallbacks::retries()),
         flaky_result: tracked::<FlakyResultKey, T>(layers, fallbacks::flaky_result()),
+        fail_weight: tracked::<FailWeightKey, T>(layers, fallbacks::fail_weight()),
         slow_timeout: slow_timeout_by(layers, mode),
         leak_timeout: tracked::<LeakTimeoutKey, T>(layers, fallbacks::leak_timeout()),
         test_group: test_group_by(layers),
