@@ -54,6 +54,7 @@ final-status-level = "flaky"
 failure-output = "immediate"
 success-output = "never"
 fail-fast = true
+fail-weight = 1
 slow-timeout = "60s"
 global-timeout = "30y"
 leak-timeout = "100ms"
@@ -153,8 +154,8 @@ PROFILE = table_of(
         **{
             key: by_kind(key)
             for key in (
-                "fail-fast final-status-level flaky-result global-timeout leak-timeout retries slow-timeout status-level test-threads"
-                " threads-required"
+                "fail-fast fail-weight final-status-level flaky-result global-timeout leak-timeout retries slow-timeout status-level"
+                " test-threads threads-required"
             ).split()
         },
     }
@@ -198,7 +199,7 @@ RULE = table_of(
         "run-extra-args": texts,
         "failure-output": by_kind("output-display"),
         "success-output": by_kind("output-display"),
-        **{key: by_kind(key) for key in "flaky-result leak-timeout priority retries slow-timeout test-group threads-required".split()},
+        **{key: by_kind(key) for key in "fail-weight flaky-result leak-timeout priority retries slow-timeout test-group threads-required".split()},
     }
 )
 
@@ -685,15 +686,16 @@ class Each:
 SETUP = Each({"command": COMMAND, "slow-timeout": SLOW_KEYS, "leak-timeout": LEAK_KEYS, "capture-stdout": ANY, "capture-stderr": ANY, "junit": STORED})
 OVERRIDE = {
     **dict.fromkeys(
-        "filter default-filter priority threads-required run-extra-args flaky-result test-group success-output failure-output".split(), ANY
+        "filter default-filter priority threads-required run-extra-args flaky-result fail-weight test-group success-output failure-output".split(),
+        ANY,
     ),
     "platform": PLATFORM, "retries": RETRY_KEYS, "slow-timeout": SLOW_KEYS, "leak-timeout": LEAK_KEYS, "bench": {"slow-timeout": SLOW_KEYS},
     "junit": JUDGED,
 }
 PROFILE_KEYS = {
     **dict.fromkeys(
-        "inherits default-filter flaky-result test-threads threads-required run-extra-args status-level final-status-level failure-output"
-        " success-output global-timeout archive".split(), ANY
+        "inherits default-filter flaky-result fail-weight test-threads threads-required run-extra-args status-level final-status-level"
+        " failure-output success-output global-timeout archive".split(), ANY
     ),
     "retries": RETRY_KEYS, "fail-fast": dict.fromkeys(("max-fail", "terminate"), ANY), "slow-timeout": SLOW_KEYS, "leak-timeout": LEAK_KEYS,
     "bench": {"slow-timeout": SLOW_KEYS, "global-timeout": ANY}, "junit": {**JUDGED, "path": ANY, "report-name": ANY},
@@ -756,8 +758,8 @@ def warning_answer(path, text):
 # ---- the rows of loads
 
 ALL = (
-    "retries,flaky-result,fail-fast,slow-timeout,global-timeout,bench.slow-timeout,bench.global-timeout,leak-timeout,test-threads,threads-required,"
-    "status-level,final-status-level,failure-output,success-output,run-extra-args,default-filter,junit,store-dir,inherits,parents,profiles"
+    "retries,flaky-result,fail-fast,fail-weight,slow-timeout,global-timeout,bench.slow-timeout,bench.global-timeout,leak-timeout,test-threads,"
+    "threads-required,status-level,final-status-level,failure-output,success-output,run-extra-args,default-filter,junit,store-dir,inherits,parents,profiles"
 )
 DAY = elements.DAY
 WRONG = ["x", 0, -1, 1.5, True, DAY, ["1s"], {"a": 1}]
@@ -767,6 +769,7 @@ RIGHT = {
     "retries": [3, {"backoff": "fixed", "count": 2, "delay": "1s", "jitter": True}, {"backoff": "exponential", "count": 4, "delay": "1s", "max-delay": "1m"}],
     "flaky-result": ["fail"],
     "fail-fast": [False, {"max-fail": 5}, {"max-fail": "all"}, {"max-fail": 2, "terminate": "immediate"}],
+    "fail-weight": [1, 2, 100],
     "slow-timeout": ["5s", {"period": "5s", "terminate-after": 2, "grace-period": "0s", "on-timeout": "pass"}],
     "global-timeout": ["2h"],
     "leak-timeout": ["1s", {"period": "0s", "result": "fail"}],
@@ -829,6 +832,9 @@ def value_rows():
             yield one(f"{where} = {toml(value)}", keys=key)
             yield one(f"profile.ci.{key} = {toml(value)}", "ci", key)
             yield one(f"profile.ci.{key} = {toml(value)}", "default", key)
+    for value in (0, 1, 100, 101, 256, 257):
+        yield one(f"profile.ci.fail-weight = {value}", "ci", "fail-weight")
+        yield one(f"profile.ci.overrides = [{{ filter = 'x', fail-weight = {value} }}]", "ci", "fail-weight")
     for key in JUNIT_KEYS:
         for value in WRONG:
             yield one(f"profile.ci.junit.{key} = {toml(value)}", "ci", "junit")
@@ -1058,6 +1064,7 @@ OVERRIDE_RIGHT = {
     "run-extra-args": [[], ["--a"]],
     "retries": [3, {"backoff": "fixed", "count": 2}],
     "flaky-result": ["fail"],
+    "fail-weight": [1, 100],
     "slow-timeout": ["5s", {"period": "5s", "terminate-after": 2}],
     "leak-timeout": ["5s"],
     "test-group": ["@global"],

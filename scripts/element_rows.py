@@ -11,8 +11,9 @@ that are also written as TOML. By the rules:
 - An identifier is taken in its NFC. It begins with a character of XID_Start, and goes on with those of XID_Continue and `-`; or it is `@tool:`,
   such a name, `:` and such a name, divided at the first `:`. A group of tests is `@global` or an identifier.
 - A tool's file is the name of a tool, `:` and a path that begins with `/`, divided at the first `:`; the path stays as it is written.
-- A limit of failing tests is `all` in any case, or a number from 1 to 2^63 - 1, a `+` and zeros before it free, with `:wait` or `:immediate`
-  behind it or not.
+- A limit of what failing tests weigh is `all` in any case, or a number from 1 to 2^63 - 1, a `+` and zeros before it free, with `:wait` or
+  `:immediate` behind it or not. It is reached by a sum of weights that isn't below it.
+- A fail weight is a number from 1 to 100, and 1 where nothing is said.
 - A value of the configuration is read by its kind. Of a table only the keys that the kind knows are looked at. If several of them are
   missing or may not stand, that with the least bytes is told.
 """
@@ -280,12 +281,13 @@ def exceeded_rows():
         "all 0", "all 1", "ALL 1000000", f"all {MOST_NANOS}", f"{MOST_COUNT} {MOST_COUNT - 1}", f"{MOST_COUNT} {MOST_COUNT}",
         f"{MOST_COUNT}:immediate {MOST_NANOS}", f"1 {MOST_NANOS}",
     ]
+    yield from ["100 99", "100 100", "101 100", "150 100", "150 200", "150:immediate 200", "10000000 9999900", "10000000 10000000"]
 
 
 def exceeded_answer(text):
-    limit, failed = text.split(" ")
+    limit, weight = text.split(" ")
     number, mode = limit_of(limit) or (MOST_NANOS + 1, None)
-    return mode if int(failed) >= number else "-"
+    return mode if int(weight) >= number else "-"
 
 
 # ---- small tables
@@ -314,6 +316,21 @@ def priority_answer(text):
         if not -100 <= number <= 100:
             return f"priority {number} is out of range: it must be from -100 to 100"
     return " ".join(map(str, sorted(numbers, reverse=True)))
+
+
+LEAST_WEIGHT, MOST_WEIGHT = 1, 100
+
+
+def weight_rows():
+    yield ""
+    yield from map(str, [0, 1, 2, 3, 10, 49, 50, 51, 98, 99, 100, 101, 102, 127, 128, 200, 254, 255])
+
+
+def weight_answer(text):
+    number = int(text or 1)
+    if not LEAST_WEIGHT <= number <= MOST_WEIGHT:
+        return f"fail weight {number} is out of range: it must be from {LEAST_WEIGHT} to {MOST_WEIGHT}"
+    return f"{number}, default {str(number == 1).lower()}"
 
 
 LEAST = -(2**63)
@@ -462,6 +479,10 @@ def some_limit(number):
 COUNT, POSITIVE_COUNT = numbers(0, MOST_32), numbers(1, MOST_32)
 PERIODS = numbers(1, MOST_COUNT)
 PRIORITY = Rule("an integer from -100 to 100", lambda it: record("TestPriority", number=it) if type(it) is int and -100 <= it <= 100 else None)
+FAIL_WEIGHT = Rule(
+    f"an integer from {LEAST_WEIGHT} to {MOST_WEIGHT}",
+    lambda it: record("FailWeight", number=it) if type(it) is int and LEAST_WEIGHT <= it <= MOST_WEIGHT else None,
+)
 TRUTH = Rule("true or false", lambda it: it if isinstance(it, bool) else None)
 DURATION = duration_from(0, "a duration, as `1h 30m`")
 POSITIVE_DURATION = duration_from(1, "a duration above 0, as `1h 30m`")
@@ -619,6 +640,7 @@ KINDS = {
     "retries": retries,
     "flaky-result": lambda it: whole(LEAK, it),
     "fail-fast": fail_fast,
+    "fail-weight": lambda it: whole(FAIL_WEIGHT, it),
     "slow-timeout": slow_timeout,
     "leak-timeout": leak_timeout,
     "global-timeout": lambda it: record("GlobalTimeout", period=whole(POSITIVE_DURATION, it)),
@@ -691,6 +713,10 @@ BY_HAND = {
         "true",
         "3:immediate",
     ],
+    "fail-weight": [
+        1, 2, 50, 99, 100, 101, 127, 128, 255, 256, 257, 300, 2**32, 2**32 + 1, 2**62, MOST_COUNT, -2, -99, -100, -255, LEAST, 1.0, 100.0, float("nan"), "1",
+        "100", "", "heavy", "all", "1s", True, [1], {"max-fail": 1}, {"fail-weight": 1}, {},
+    ],
     "slow-timeout": [
         *({"period": period} for period in ["0", "0s", "1ns", "1m", f"{MOST_NANOS}ns", f"{MOST_NANOS + 1}ns"]),
         *({"period": "1m", "terminate-after": after} for after in [1, 2, MOST_32 + 1, MOST_COUNT, 0, -1, LEAST, 1.0, "1"]),
@@ -738,6 +764,13 @@ SPELLED = [
     ("global-timeout", "1s", '"""1s"""'),
     ("threads-required", "num-cpus", "'num-cpus'"),
     ("test-threads", -2, "-2 # processors stay free"),
+    ("fail-weight", 7, "+7"),
+    ("fail-weight", 100, "1_00"),
+    ("fail-weight", 100, "0x64 # a hundred"),
+    ("fail-weight", 101, "0b1100101"),
+    ("fail-weight", 1.0, "1e0"),
+    ("fail-weight", 0, "-0"),
+    ("fail-weight", "1", "'1'"),
     ("test-group-config", {"max-threads": "num-cpus"}, "{ max-threads = 'num-cpus' }"),
     ("fail-fast", {"max-fail": "all"}, "{ \"max\\u002dfail\" = 'all' }"),
     ("tool-name", "é", '"e\\u0301"'),
@@ -801,9 +834,14 @@ TABLE_ROWS = {
     "tool_config_files": ("TEXT => the tool and its file, or why it is none", tool_config_rows, tool_config_answer),
     "test_groups": ("TEXT => `global`, or `custom` and the identifier; or why it is none", group_rows, group_answer),
     "limits": ("TEXT => the limit as it prints, and how a run stops there; or why it is none", limit_rows, limit_answer),
-    "exceeded": ("LIMIT and how many tests failed => how the run stops, or `-` where it goes on", exceeded_rows, exceeded_answer),
+    "exceeded": ("LIMIT and what failing tests weigh together => how the run stops, or `-` where it goes on", exceeded_rows, exceeded_answer),
     "flaky_messages": ("RULE, the attempt that passed, and how many there may be => what is told of the failure, or `-`", flaky_rows, flaky_answer),
     "priorities": ("NUMBERS => the priorities in the order in which tests run, or why the first that is none is none", priority_rows, priority_answer),
+    "fail_weights": (
+        "NUMBER, or nothing where none is said => the fail weight, and whether it is that where none is said; or why it is none",
+        weight_rows,
+        weight_answer,
+    ),
     "threads": (
         "test-threads SETTING PROCESSORS => how many tests run at a time; threads-required SETTING TEST-THREADS PROCESSORS => how many a test takes",
         thread_rows,

@@ -549,6 +549,12 @@ class Settings(NamedTuple):
     flaky_result: str
     success_output: str
     failure_output: str
+    fail_weight: int
+
+
+def number_of(shown):
+    """The number in a setting as it is shown."""
+    return int(re.search("-?[0-9]+", shown)[0])
 
 
 class Profile:
@@ -599,9 +605,10 @@ class Profile:
 
         group = setting("test-group", "Global")
         return Settings(
-            priority=int(re.search("-?[0-9]+", setting("priority", "0"))[0]),
+            priority=number_of(setting("priority", "0")),
             tries=int(re.search("count: ([0-9]+)", setting("retries", self.setting("retries")))[1]) + 1,
             group="@global" if group == "Global" else json.loads(group.removeprefix("Custom(").removesuffix(")")),
+            fail_weight=number_of(setting("fail-weight", self.setting("fail-weight"))),
             **{key.replace("-", "_"): setting(key, self.setting(key)) for key in ("flaky-result", "success-output", "failure-output")},
         )
 

@@ -10,8 +10,9 @@ scripts/plan_rows.py draws stand at the end of `profiles_plans`. Then, by the ru
 - Scripts end one by one, in the plan's order, while the run isn't stopped: another line of a script is refused, of one that isn't planned first,
   then where the run is stopped. A script that ends without a success stops the run. No test starts before all scripts ended.
 - An attempt that ends finishes its test if it is a success, the last try, or the run is stopped; else the test is between two attempts. A
-  finished test fails where its last attempt does, or where it passes late and the flaky rule is `fail`. As many of these as the limit stop
-  a run that isn't stopped, and each stop finishes the tests between two attempts.
+  finished test fails where its last attempt does, or where it passes late and the flaky rule is `fail`. A run that isn't stopped is stopped by
+  the end that finishes a test after which those that failed weigh as much together as the limit, each once and by its own setting
+  (`fail-weight`); and each stop finishes the tests between two attempts. What all that failed weigh in the end is a counter, at most 2^64 - 1.
 - A test is told by the reason that stood before its own attempt ended, or by the stop that finished it. Its line is due where the status level
   reaches the test's. Outputs are those for a success where the last attempt is one. They stand at once where they are shown immediately, but
   not after an interrupt; in the final text where they are shown finally, but not after a signal where they stood at once. The final text has
@@ -47,8 +48,9 @@ REASONS = ["setup-script-failure", "test-failure", "report-error", "test-failure
 COUNTERS = (
     "initial-run-count finished-count setup-scripts-initial-count setup-scripts-finished-count setup-scripts-passed setup-scripts-failed"
     " setup-scripts-exec-failed setup-scripts-timed-out passed passed-slow passed-timed-out flaky failed failed-slow failed-timed-out leaky"
-    " leaky-failed exec-failed skipped"
+    " leaky-failed exec-failed skipped failed-weight"
 ).split()
+MOST_COUNTED = 2**64 - 1
 
 SUCCESSES = ("pass", "leak:pass", "timeout:pass")
 # Under which counter a script counts that ended, by the first word of its end; of leaks by the whole.
@@ -136,6 +138,9 @@ class Test:
     def is_late(self):
         return len(self.ended) > 1
 
+    def weight(self):
+        return self.settings.fail_weight
+
     def fails(self):
         return not self.is_success() or (self.is_late() and self.settings.flaky_result == "Fail")
 
@@ -202,6 +207,13 @@ class Run:
     def finished(self):
         return [test for test in self.tests.values() if test.mark == "finished"]
 
+    def failed_weight(self):
+        """What the finished tests that fail weigh together."""
+        return sum(test.weight() for test in self.finished() if test.fails())
+
+    def is_at_limit(self):
+        return self.limit is not None and self.failed_weight() >= self.limit
+
     def stop(self, reason):
         """The tests that a stop finishes."""
         if self.reason is not None:
@@ -259,12 +271,12 @@ class Run:
             test.mark = "between"
             return []
         test.mark, test.under = "finished", self.reason
-        is_over = self.reason is None and self.limit is not None and sum(it.fails() for it in self.finished()) >= self.limit
+        is_over = self.reason is None and self.is_at_limit()
         return [test, *(self.stop(self.limit_reason) if is_over else [])]
 
     def counters(self):
         counts = dict.fromkeys(COUNTERS, 0) | {"initial-run-count": len(self.tests), "finished-count": len(self.finished())}
-        counts["skipped"] = self.skipped
+        counts |= {"skipped": self.skipped, "failed-weight": min(self.failed_weight(), MOST_COUNTED)}
         ended = [script for script in self.scripts if script.ended is not None]
         counts |= {"setup-scripts-initial-count": len(self.scripts), "setup-scripts-finished-count": len(ended)}
         for script in ended:
@@ -319,6 +331,11 @@ def run_answer(stream):
         plan = plans.plan_of(inputs)
     except Refused as refusal:
         return f"refused\t{refusal}\n(status {92 if str(refusal) == 'VersionError' else 96})\n"
+    return log_answer(plan, log)
+
+
+def log_answer(plan, log):
+    """The report of a plan by the lines of a log, and a line with the status."""
     run, lines = Run(plan), [f"warning\t{warning}" for warning in plan.warnings]
     for number, line in enumerate(log, 1):
         try:
@@ -417,12 +434,16 @@ def run_rows():
         yield set_at(settings) + stopped_by(choose.choice([None, None, "signal", "interrupt", "report-error"]))
 
 
+# The keys of profiles that are drawn: no default filter; and no weight, which runs show (scripts/weight_rows.py).
+KEYS = [key for key in configs.RIGHT if key not in ("default-filter", "fail-weight")]
+
+
 def drawn_sources(choose):
     """Some sources: of tools, explicit and discovered, with a text in TOML, or not read."""
     for place in range(choose.randrange(1, 4)):
         text = ""
         for name in choose.sample(["default", "default-miri", "ci", "base"], choose.randrange(1, 5)):
-            keys = choose.sample(list(configs.RIGHT)[:-1], choose.randrange(5))
+            keys = choose.sample(KEYS, choose.randrange(5))
             profile = {key: choose.choice(configs.RIGHT[key] if choose.randrange(60) else configs.WRONG) for key in keys}
             if choose.random() < (0.4 if "default" not in name else 0.05):
                 profile["inherits"] = choose.choice(["default", "default", "base", "default-miri", "ci"])

@@ -3,7 +3,7 @@
 
     python3 scripts/settings_rows.py
 
-Two rows are made by hand, all others are drawn from two seeds, so the table comes out the same each time. It knows nothing of the program.
+Four rows are made by hand, all others are drawn from two seeds, so the table comes out the same each time. It knows nothing of the program.
 Filters and platform specs are those without a language: a filter is `all()`, `none()` or the name of a test, a spec the name of a platform; of
 a platform without names nothing is known. Values, the merge of files and the parents of profiles are reckoned by scripts/config_rows.py. Then,
 by the rules:
@@ -39,7 +39,7 @@ HEAD = (
     " of the default filter the key; and for `list-wrapper` and `setup-scripts` the scripts alone; HOST and TARGET are the names of a platform with commas between them, `-` where nothing is known of it, `none` where there is no target"
 )
 KEYS = (
-    "priority threads-required run-extra-args retries flaky-result slow-timeout leak-timeout test-group success-output failure-output"
+    "priority threads-required run-extra-args retries flaky-result fail-weight slow-timeout leak-timeout test-group success-output failure-output"
     " junit.store-success-output junit.store-failure-output junit.report-skipped junit.flaky-fail-status default-filter"
 ).split()
 ONLY_RULES = {"priority": "TestPriority { number: 0 }", "test-group": "Global"}
@@ -55,6 +55,7 @@ RIGHT = {
     "run-extra-args": [[], ["--a"], ["--a", "b"]],
     "retries": [0, 1, 3, {"backoff": "fixed", "count": 2, "delay": "1s", "jitter": True}],
     "flaky-result": ["pass", "fail"],
+    "fail-weight": [1, 2, 50, 100],
     "slow-timeout": ["5s", {"period": "7s", "terminate-after": 2}],
     "leak-timeout": ["1s", {"period": "2s", "result": "fail"}],
     "test-group": ["g", "h", "@global"],
@@ -188,10 +189,13 @@ def wrapper(config, rules, key):
 
 
 def rows_by_hand():
-    """A rule that sets no retries leaves them to the next one that holds."""
+    """A rule that sets no retries leaves them to the next one that holds; and a fail weight of a rule comes before that of the profile."""
     text = """profile.default.overrides = [{ filter = "all()", priority = 5 }, { filter = "a", retries = 2 }]"""
     for test in ("a", "b"):
         yield "default", "test", "target", [], None, test, ["priority", "retries"], [("explicit", "nextest.toml", "text " + text)]
+    text = """profile.default = { fail-weight = 2, overrides = [{ filter = "all()", retries = 1 }, { filter = "a", fail-weight = 3 }] }"""
+    for test in ("a", "b"):
+        yield "default", "test", "target", [], None, test, ["fail-weight"], [("explicit", "nextest.toml", "text " + text)]
 
 
 def rows():

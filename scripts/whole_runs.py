@@ -197,6 +197,7 @@ FULL = changed(DATA / "inputs/full.in")
 PLAN = changed(DATA / "plan.json")
 STREAM = changed(ROWS / "profiles_runs.in")
 SCRIPTS = changed(ROWS / "script_runs.in")
+WEIGHTS = changed(ROWS / "weight_runs.in")
 
 
 def runs(program, stream):
@@ -207,11 +208,38 @@ def profiles_runs(program, changes):
     return program.run(STREAM(changes)).shown()
 
 
-def script_runs(program, row):
-    """The report without the lines of counters that are 0, and a line with the status."""
+def without_zeros(program, inputs, row):
+    """The report of changed inputs and a log without the lines of counters that are 0, and a line with the status."""
     changes, log = row.split(BAR)
-    told = program.run(on_a_line(SCRIPTS(changes)) + with_tabs(log)).shown()
+    told = program.run(on_a_line(inputs(changes)) + with_tabs(log)).shown()
     return re.sub(ZERO, "", told)
+
+
+def script_runs(program, row):
+    return without_zeros(program, SCRIPTS, row)
+
+
+def weight_runs(program, row):
+    return without_zeros(program, WEIGHTS, row)
+
+
+def many_tests(program, row):
+    """What a run comes to of so many tests, each of a weight, under a limit, of which so many fail one after another."""
+    count, weight, limit, failing = row.split(" ")
+    inputs = json.loads(PLAN(""))
+    names = inputs["workspace"]["binaries"][0]["tests"] = [f"t{place:06}" for place in range(int(count))]
+    text = f"[profile.default]\nfail-fast = {{ max-fail = {limit} }}\nfail-weight = {weight}\n"
+    inputs["sources"] = [{"kind": "explicit", "path": "n", "text": text}]
+    log = "".join(f"start\tp\t{name}\nend\tp\t{name}\tfail:1\t-\t1\t-\t-\n" for name in names[: int(failing)])
+    run = program.run(json.dumps(inputs) + "\n" + log)
+    refused = re.search(r"^refused\t(.*)$", run.report, re.M)
+    if refused:
+        return f"status {run.status}, refused {refused[1]}".replace("\t", " ")
+    reason = re.search(r"^cancel-reason\t(.*)$", run.final_text() or "", re.M)
+    if not reason:
+        return run.shown()
+    counters = ("failed", "failed-weight")
+    return ", ".join([f"status {run.status}", *(f"{name} {counter(name, run)}" for name in counters), f"cancel-reason {reason[1]}"])
 
 
 def inputs(program, text):
@@ -380,6 +408,8 @@ TABLES = {
     "runs": runs,
     "profiles_runs": profiles_runs,
     "script_runs": script_runs,
+    "weight_runs": weight_runs,
+    "many_tests": many_tests,
     "told_tests": told_tests,
     "pairs": pairs,
     "agreeing": agreeing,

@@ -2,9 +2,9 @@
 // of a log by the same names, and writes the same report. `rustc -O plain.rs` builds it; it uses nothing but std.
 //
 // It knows plans without filtersets and scripts, and of settings what `fail-fast = false` and `retries = N` in the first source say; it
-// doesn't know inputs that are refused, and warnings. Outputs are looked at as hex and kept only until they are written. Where the first
-// source has the comment `# rules N`, the first N rules of rules.rs give tests their settings, and its two filters and its script are in force;
-// of the script no line of the log is known.
+// doesn't know inputs that are refused, and warnings. It knows no fail weights: each test weighs 1, and its limit is 1 or none. Outputs are
+// looked at as hex and kept only until they are written. Where the first source has the comment `# rules N`, the first N rules of rules.rs
+// give tests their settings, and its two filters and its script are in force; of the script no line of the log is known.
 use std::collections::HashMap;
 use std::io::{self, BufRead, Read, Write};
 
@@ -512,6 +512,7 @@ impl<'a> Run<'a> {
         let is_failed = |it: Ended| matches!(it, LeakFail | Fail(..) | Abort(..));
         let initial = self.tests.len();
         let ended = self.tests.iter().filter(|it| it.mark == Mark::Finished).count();
+        let failing = count(&|it, _, _| !it.is_success());
         let counters = [
             ("initial-run-count", initial),
             ("finished-count", ended),
@@ -532,8 +533,8 @@ impl<'a> Run<'a> {
             ("leaky-failed", count(&|it, _, _| it == LeakFail)),
             ("exec-failed", count(&|it, _, _| it == ExecFail)),
             ("skipped", self.skipped),
+            ("failed-weight", failing),
         ];
-        let failing = count(&|it, _, _| !it.is_success());
         let status = match initial {
             0 => 4,
             _ if self.has_script => 105,

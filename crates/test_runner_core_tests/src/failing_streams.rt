@@ -135,7 +135,7 @@ fn of_writer(alloc: Global, mut report: MemoryWriter) -> Option<(End, u64, usize
 #[test]
 fn each_write_that_fails_is_told(rt: HostRuntime) -> Result<(), Fail> {
     // Each byte is a write, and each time there is room for as many as are written.
-    for count in 0..598 {
+    for count in 0..614 {
         let failing = MemoryWriter::new(rt.alloc(), REPORT.len(), 1)?;
         let told = of_writer(
             rt.alloc(),

@@ -38,7 +38,7 @@ const PASSES: &[u8] = b"start\tp\ta\nend\tp\ta\tpass\t-\t1\t-\t-\n";
 
 // The report of the run in which the test passes.
 const REPORT: &[u8] =
-    b"done\tp\ta\tpass\t1/1\n== final ==\nstatus\t0\noutcome success\ninitial-run-count\t1\nfinished-count\t1\nsetup-scripts-initial-count\t0\nsetup-scripts-finished-count\t0\nsetup-scripts-passed\t0\nsetup-scripts-failed\t0\nsetup-scripts-exec-failed\t0\nsetup-scripts-timed-out\t0\npassed\t1\npassed-slow\t0\npassed-timed-out\t0\nflaky\t0\nfailed\t0\nfailed-slow\t0\nfailed-timed-out\t0\nleaky\t0\nleaky-failed\t0\nexec-failed\t0\nskipped\t0\ncancel-reason\t-\n";
+    b"done\tp\ta\tpass\t1/1\n== final ==\nstatus\t0\noutcome success\ninitial-run-count\t1\nfinished-count\t1\nsetup-scripts-initial-count\t0\nsetup-scripts-finished-count\t0\nsetup-scripts-passed\t0\nsetup-scripts-failed\t0\nsetup-scripts-exec-failed\t0\nsetup-scripts-timed-out\t0\npassed\t1\npassed-slow\t0\npassed-timed-out\t0\nflaky\t0\nfailed\t0\nfailed-slow\t0\nfailed-timed-out\t0\nleaky\t0\nleaky-failed\t0\nexec-failed\t0\nskipped\t0\nfailed-weight\t0\ncancel-reason\t-\n";
 
 // Whether the run of inputs is judged to its end.
 fn is_judged(alloc: Global, inputs: &Inputs, lister: &mut OwnLister) -> Result<bool, Fail> {

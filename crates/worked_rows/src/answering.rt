@@ -66,6 +66,7 @@ limits
 exceeded
 flaky_messages
 priorities
+fail_weights
 threads
 values
 commands
@@ -219,6 +220,7 @@ fn of_numbers(page: &mut Page, name: &str, input: &str) -> Option<()> {
         "exceeded" => elements::exceeded(page, input),
         "flaky_messages" => elements::flaky_messages(page, input),
         "priorities" => elements::priorities(page, input),
+        "fail_weights" => elements::fail_weights(page, input),
         "threads" => elements::threads(page, input),
         _ => None,
     }

@@ -4,7 +4,7 @@ use crate::page::{Page, Whole};
 use crate::parts::{Word, list_of, two};
 use crate::values::word_as;
 use crate::{show, some};
-use nextest_config_elements::FlakyResult;
+use nextest_config_elements::{FailWeight, FlakyResult};
 use nextest_run_events::{
     ChildExecutionOutputDescription, ChildOutputDescription, ExecuteStatus, ExecutionStatuses,
     LiveSpec, OutputSpec, RetryData, RunStats, SetupScriptExecuteStatus,
@@ -45,8 +45,8 @@ impl Word for ExecuteStatus<NoOutput> {
     }
 }
 
-// The flaky rule of a test and how its attempts ended: the two levels of what they come to, whether
-// the last output is that of a success, and the counters of a run of this test alone.
+// The flaky rule of a test of weight 1 and how its attempts ended: the two levels of what they come
+// to, whether the last output is that of a success, and the counters of a run of this test alone.
 pub(crate) fn attempts(page: &mut Page, input: &str) -> Option<()> {
     let (rule, ends) = two(input, ": ");
     let rule = some!(word_as::<FlakyResult>(page.alloc, rule));
@@ -67,7 +67,7 @@ fn attempts_told(page: &mut Page, attempts: &ExecutionStatuses<NoOutput>) {
         described.is_success_for_output(), "; "
     );
     let mut stats = RunStats::default();
-    stats.on_test_finished(attempts);
+    stats.on_test_finished(attempts, FailWeight::default());
     counters_told(page, &stats);
 }
 
@@ -121,7 +121,8 @@ fn counters_told(page: &mut Page, stats: &RunStats) {
         .counter(start, "leaky", stats.leaky)
         .counter(start, "leaky failed", stats.leaky_failed)
         .counter(start, "exec-failed", stats.exec_failed)
-        .counter(start, "skipped", stats.skipped);
+        .counter(start, "skipped", stats.skipped)
+        .counter(start, "failed weight", stats.failed_weight);
 }
 
 impl Page {

@@ -4,7 +4,7 @@ use crate::parts::{three, two};
 use crate::values::{toml_value, word_as};
 use crate::{ok, show, some};
 use nextest_config_elements::{
-    ConfigDuration, ConfigIdentifier, FlakyResult, MaxFail, NextestRunMode, TestGroup,
+    ConfigDuration, ConfigIdentifier, FailWeight, FlakyResult, MaxFail, NextestRunMode, TestGroup,
     TestPriority, ToolConfigFile, ToolName, deserialize_test_threads, deserialize_threads_required,
 };
 use nextest_text::{i32_of_decimal, u64_of_decimal};
@@ -107,11 +107,11 @@ impl Tell for MaxFail {
     }
 }
 
-// A limit and how many tests failed: how the run stops, or `-` where it goes on.
+// A limit and what failing tests weigh together: how the run stops, or `-` where it goes on.
 pub(crate) fn exceeded(page: &mut Page, input: &str) -> Option<()> {
-    let (limit, failed) = two(input, " ");
+    let (limit, failed_weight) = two(input, " ");
     let limit = ok!(MaxFail::from_text(limit));
-    match limit.is_exceeded(page.size(failed)) {
+    match limit.is_exceeded(page.size(failed_weight)) {
         Some(mode) => page.show(mode),
         None => page.show("-"),
     }
@@ -151,6 +151,23 @@ pub(crate) fn priorities(page: &mut Page, input: &str) -> Option<()> {
 impl Tell for TestPriority {
     fn tell(&self, page: &mut Page) {
         page.show(self.to_i8());
+    }
+}
+
+// A number, or nothing where none is said: the fail weight that it is, and whether it is that where
+// none is said; or why it is none.
+pub(crate) fn fail_weights(page: &mut Page, input: &str) -> Option<()> {
+    if input.is_empty() {
+        FailWeight::default().tell(page);
+    } else {
+        page.told(FailWeight::new(ok!(input.parse::<u8>())));
+    }
+    Some(())
+}
+
+impl Tell for FailWeight {
+    fn tell(&self, page: &mut Page) {
+        show!(page; self.get(), ", default ", *self == FailWeight::default());
     }
 }
 

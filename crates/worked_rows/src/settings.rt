@@ -44,6 +44,7 @@ fn how_runs_go(page: &mut Page, profile: &PlainProfile<'_>, key: &str) -> Option
         "retries" => page.debug(profile.retries()),
         "flaky-result" => page.debug(profile.flaky_result()),
         "fail-fast" => page.debug(profile.max_fail()),
+        "fail-weight" => page.debug(profile.fail_weight()),
         "leak-timeout" => page.debug(profile.leak_timeout()),
         "test-threads" => page.debug(profile.test_threads()),
         "threads-required" => page.debug(profile.threads_required()),

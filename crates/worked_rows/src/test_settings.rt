@@ -183,15 +183,16 @@ fn how_it_runs(page: &mut Page, settings: &Sourced<'_>, key: &str) -> Option<()>
         "slow-timeout" => sourced(page, &settings.slow_timeout),
         "leak-timeout" => sourced(page, &settings.leak_timeout),
         "test-group" => group_told(page, &settings.test_group),
-        _ => return what_is_shown(page, settings, key),
+        _ => return how_it_counts(page, settings, key),
     }
     Some(())
 }
 
-// A setting of what is shown of a test.
-fn what_is_shown(page: &mut Page, settings: &Sourced<'_>, key: &str) -> Option<()> {
+// A setting of what a failure comes to, or of what is shown of a test.
+fn how_it_counts(page: &mut Page, settings: &Sourced<'_>, key: &str) -> Option<()> {
     match key {
         "flaky-result" => sourced(page, &settings.flaky_result),
+        "fail-weight" => sourced(page, &settings.fail_weight),
         "success-output" => sourced(page, &settings.success_output),
         "failure-output" => sourced(page, &settings.failure_output),
         "junit.store-success-output" => sourced(page, &settings.junit_store_success_output),

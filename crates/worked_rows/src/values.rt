@@ -4,12 +4,12 @@ use crate::parts::two;
 use crate::{ok, some};
 use nextest_config_elements::{
     Any, ConfigValue, deserialize_config_identifier, deserialize_fail_fast,
-    deserialize_final_status_level, deserialize_flaky_result, deserialize_global_timeout,
-    deserialize_junit_flaky_fail_status, deserialize_leak_timeout, deserialize_report_skip_policy,
-    deserialize_retry_policy, deserialize_slow_timeout, deserialize_status_level,
-    deserialize_test_group, deserialize_test_group_config, deserialize_test_output_display,
-    deserialize_test_priority, deserialize_test_threads, deserialize_threads_required,
-    deserialize_tool_name,
+    deserialize_fail_weight, deserialize_final_status_level, deserialize_flaky_result,
+    deserialize_global_timeout, deserialize_junit_flaky_fail_status, deserialize_leak_timeout,
+    deserialize_report_skip_policy, deserialize_retry_policy, deserialize_slow_timeout,
+    deserialize_status_level, deserialize_test_group, deserialize_test_group_config,
+    deserialize_test_output_display, deserialize_test_priority, deserialize_test_threads,
+    deserialize_threads_required, deserialize_tool_name,
 };
 use std::alloc::Global;
 use toml::{Table, Value};
@@ -53,12 +53,13 @@ fn value_read(page: &mut Page, kind: &str, value: &Value) -> Option<()> {
     Some(())
 }
 
-// A value of a kind that is a name or a group's setting.
+// A value of a kind that is a name, a group's setting, a priority or a weight.
 fn name_read(page: &mut Page, kind: &str, value: &Value, path: &[&str]) -> Option<()> {
     let alloc = page.alloc;
     match kind {
         "test-group-config" => page.debugged(deserialize_test_group_config(alloc, value, path)),
         "priority" => page.debugged(deserialize_test_priority(alloc, value, path)),
+        "fail-weight" => page.debugged(deserialize_fail_weight(alloc, value, path)),
         "tool-name" => page.debugged(deserialize_tool_name(alloc, value, path)),
         "config-identifier" => page.debugged(deserialize_config_identifier(alloc, value, path)),
         "test-group" => page.debugged(deserialize_test_group(alloc, value, path)),
