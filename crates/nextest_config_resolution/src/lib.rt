@@ -6,6 +6,7 @@
 
 pub mod laws;
 
+pub use nextest_config_elements_choices::FailWeight;
 pub use nextest_config_elements_choices::FinalStatusLevel;
 pub use nextest_config_elements_choices::FlakyResult;
 pub use nextest_config_elements_choices::MaxFail;

@@ -22,6 +22,7 @@ no_fallback front = record {
   test_threads = set_at_end key.test_threads front default_profile refl;
   run_global_timeout = set_at_end key.run_global_timeout front default_profile refl;
   bench_global_timeout = set_at_end key.bench_global_timeout front default_profile refl;
+  fail_weight = set_at_end key.fail_weight front default_profile refl;
   flaky_result = set_at_end key.flaky_result front default_profile refl;
   leak_timeout = set_at_end key.leak_timeout front default_profile refl;
   retries = set_at_end key.retries front default_profile refl;

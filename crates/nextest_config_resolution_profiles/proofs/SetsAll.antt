@@ -6,6 +6,7 @@ use Rattle.std.proofs.lemmas.Option.{none-some, same_Some}
 use Rattle.toml.specs.Data.{Data, table, Members, as_str, get_member}
 use Rattle.nextest_config_elements_deserialize.proofs.Keys.{optional_has}
 use Rattle.nextest_config_elements_deserialize.specs.Accepted.{MayHave, IsRetryPolicy, IsSlowTimeout}
+use Rattle.nextest_config_elements_deserialize.specs.FailWeights.{fail_weight}
 use Rattle.nextest_config_elements_deserialize.specs.Junit.{report_skip_policy, flaky_fail_status}
 use Rattle.nextest_config_elements_deserialize.specs.Limits.{fail_fast_in}
 use Rattle.nextest_config_elements_deserialize.specs.Threads.{test_threads, threads_required}
@@ -73,6 +74,7 @@ sets_each top it value is front =
       test_threads = have key.test_threads (codes "test-threads") test_threads is.test_threads refl;
       run_global_timeout = be key.run_global_timeout (codes "global-timeout") (Reads global_timeout_in) is.global_timeout refl;
       bench_global_timeout = in_bench bench bench_set (λ it. it.global_timeout) (codes "global-timeout") (Reads global_timeout_in) bench_is.global_timeout refl;
+      fail_weight = have key.fail_weight (codes "fail-weight") fail_weight is.fail_weight refl;
       flaky_result = have key.flaky_result (codes "flaky-result") flaky_result is.flaky_result refl;
       leak_timeout = be key.leak_timeout (codes "leak-timeout") (Reads leak_timeout_in) is.leak_timeout refl;
       retries = be key.retries (codes "retries") IsRetryPolicy is.retries refl;

@@ -24,6 +24,7 @@ abbrev pub plain_members : Members
 plain_members =
     member (codes "default-filter") (string (codes "all()")) (
     member (codes "fail-fast") (boolean true) (
+    member (codes "fail-weight") (integer (pos 1)) (
     member (codes "failure-output") (string (codes "immediate")) (
     member (codes "final-status-level") (string (codes "flaky")) (
     member (codes "flaky-result") (string (codes "pass")) (
@@ -35,13 +36,14 @@ plain_members =
     member (codes "status-level") (string (codes "pass")) (
     member (codes "success-output") (string (codes "never")) (
     member (codes "test-threads") (string (codes "num-cpus")) (
-    member (codes "threads-required") (integer (pos 1)) no_members)))))))))))))
+    member (codes "threads-required") (integer (pos 1)) no_members))))))))))))))
 
 abbrev pub default_members : Members
 default_members =
     member (codes "bench") (table bench_members) (
     member (codes "default-filter") (string (codes "all()")) (
     member (codes "fail-fast") (boolean true) (
+    member (codes "fail-weight") (integer (pos 1)) (
     member (codes "failure-output") (string (codes "immediate")) (
     member (codes "final-status-level") (string (codes "flaky")) (
     member (codes "flaky-result") (string (codes "pass")) (
@@ -54,7 +56,7 @@ default_members =
     member (codes "status-level") (string (codes "pass")) (
     member (codes "success-output") (string (codes "never")) (
     member (codes "test-threads") (string (codes "num-cpus")) (
-    member (codes "threads-required") (integer (pos 1)) no_members)))))))))))))))
+    member (codes "threads-required") (integer (pos 1)) no_members))))))))))))))))
 
 abbrev pub profiles_members : Members
 profiles_members = member (codes "default") (table default_members) (member (codes "default-miri") (table no_members) no_members)

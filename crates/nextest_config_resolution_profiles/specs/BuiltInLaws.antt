@@ -32,6 +32,7 @@ pub record SetsEach (chain : List ProfileConfig) : Type 0 where
   pub test_threads : ¬ SetsNone key.test_threads chain
   pub run_global_timeout : ¬ SetsNone key.run_global_timeout chain
   pub bench_global_timeout : ¬ SetsNone key.bench_global_timeout chain
+  pub fail_weight : ¬ SetsNone key.fail_weight chain
   pub flaky_result : ¬ SetsNone key.flaky_result chain
   pub leak_timeout : ¬ SetsNone key.leak_timeout chain
   pub retries : ¬ SetsNone key.retries chain

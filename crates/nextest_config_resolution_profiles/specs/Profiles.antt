@@ -18,6 +18,7 @@ default_profile = record {
     test_threads = Some fallback.test_threads;
   };
   test = record {
+    fail_weight = Some fallback.fail_weight;
     flaky_result = Some fallback.flaky_result;
     leak_timeout = Some fallback.leak_timeout;
     retries = Some fallback.retries;
@@ -51,7 +52,14 @@ miri_profile = record {
   default_filter = None;
   run_extra_args = None;
   run = record { fail_fast = None; global_timeout = None; test_threads = None };
-  test = record { flaky_result = None; leak_timeout = None; retries = None; slow_timeout = None; threads_required = None };
+  test = record {
+    fail_weight = None;
+    flaky_result = None;
+    leak_timeout = None;
+    retries = None;
+    slow_timeout = None;
+    threads_required = None;
+  };
   output = record { failure_output = None; final_status_level = None; status_level = None; success_output = None };
   bench = None;
   junit = None;

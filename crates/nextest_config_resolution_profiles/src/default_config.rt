@@ -15,6 +15,7 @@ final-status-level = "flaky"
 failure-output = "immediate"
 success-output = "never"
 fail-fast = true
+fail-weight = 1
 slow-timeout = "60s"
 global-timeout = "30y"
 leak-timeout = "100ms"

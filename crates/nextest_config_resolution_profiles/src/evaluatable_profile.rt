@@ -15,7 +15,8 @@ ghost use Rattle.nextest_filtering_filters.specs.Query.{test_of};
 use crate::chain_rule::ChainRule;
 use crate::held::{group_on, held_on};
 use nextest_config_elements_choices::{
-    FinalStatusLevel, FlakyResult, MaxFail, NextestRunMode, StatusLevel, TestOutputDisplay,
+    FailWeight, FinalStatusLevel, FlakyResult, MaxFail, NextestRunMode, StatusLevel,
+    TestOutputDisplay,
 };
 use nextest_config_elements_values::{
     GlobalTimeout, JunitConfig, JunitFlakyFailStatus, LeakTimeout, ReportSkipPolicy, RetryPolicy,
@@ -25,11 +26,11 @@ use nextest_config_resolution_filters::{Filters, Specs};
 use nextest_config_resolution_overrides::{NamedGroup, PlacedOverride};
 use nextest_config_resolution_scripts::{PlacedScriptRule, ScriptConfig};
 use nextest_config_resolution_settings::keys::{
-    BenchGlobalTimeoutKey, BenchSlowTimeoutKey, FailFastKey, FailureOutputKey, FinalStatusLevelKey,
-    FlakyResultKey, GlobalTimeoutKey, JunitFlakyFailStatusKey, JunitPathKey, JunitReportNameKey,
-    JunitReportSkippedKey, JunitStoreFailureOutputKey, JunitStoreSuccessOutputKey, LeakTimeoutKey,
-    RetriesKey, RunExtraArgsKey, SlowTimeoutKey, StatusLevelKey, SuccessOutputKey, TestThreadsKey,
-    ThreadsRequiredKey,
+    BenchGlobalTimeoutKey, BenchSlowTimeoutKey, FailFastKey, FailWeightKey, FailureOutputKey,
+    FinalStatusLevelKey, FlakyResultKey, GlobalTimeoutKey, JunitFlakyFailStatusKey, JunitPathKey,
+    JunitReportNameKey, JunitReportSkippedKey, JunitStoreFailureOutputKey,
+    JunitStoreSuccessOutputKey, LeakTimeoutKey, RetriesKey, RunExtraArgsKey, SlowTimeoutKey,
+    StatusLevelKey, SuccessOutputKey, TestThreadsKey, ThreadsRequiredKey,
 };
 use nextest_config_resolution_settings::{
     CompiledDefaultFilter, SettingSource, TestGroupRef, TestLayers, TestSettings, TrackSource,
@@ -167,6 +168,14 @@ impl<'c, F: Filters, S: Specs> EvaluatableProfile<'c, F, S> {
     {
         let otherwise = fallbacks::flaky_result();
         *value_or::<FlakyResultKey, ProfileConfig>(self.chain(), &otherwise)
+    }
+
+    /// `fail-weight`: how much a test weighs that fails.
+    pub fn fail_weight(&self) -> FailWeight
+        ensures { OfProfiles key.fail_weight self.now.chain fallback.fail_weight result }
+    {
+        let otherwise = fallbacks::fail_weight();
+        *value_or::<FailWeightKey, ProfileConfig>(self.chain(), &otherwise)
     }
 
     /// `test-threads`: how many tests run at a time.

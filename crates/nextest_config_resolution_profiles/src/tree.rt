@@ -53,6 +53,7 @@ fn default_values(alloc: Global) -> Result<Table, AllocError>
         &[
             ("default-filter", Plain::Text("all()")),
             ("fail-fast", Plain::Flag(true)),
+            ("fail-weight", Plain::Number(1)),
             ("failure-output", Plain::Text("immediate")),
             ("final-status-level", Plain::Text("flaky")),
             ("flaky-result", Plain::Text("pass")),

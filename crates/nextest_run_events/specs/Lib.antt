@@ -13,6 +13,7 @@ pub use Rattle.nextest_run_events_outputs.specs.Output
 -- attempts of tests, and what is counted of them
 pub use Rattle.nextest_run_events_counters.specs.Attempts
 pub use Rattle.nextest_run_events_counters.specs.Counting
+pub use Rattle.nextest_config_elements_choices.specs.FailWeight
 pub use Rattle.nextest_run_events_counters.specs.Description
 pub use Rattle.nextest_run_events_counters.specs.Rows
 pub use Rattle.nextest_run_events_counters.specs.Summary
@@ -58,6 +59,7 @@ pub use Rattle.nextest_config_elements_values.specs.declared.junit.JunitFlakyFai
 pub use Rattle.nextest_config_elements_values.specs.declared.junit.MismatchReason
 pub use Rattle.nextest_config_elements_values.specs.declared.junit.ReportSkipPolicy
 pub use Rattle.nextest_config_elements_identifiers.specs.declared.test_group.TestGroup
+pub use Rattle.nextest_config_elements_choices.specs.declared.fail_weight.FailWeightOutOfRange
 pub use Rattle.nextest_config_elements_choices.specs.declared.timeouts.FlakyResult
 pub use Rattle.nextest_config_elements_choices.specs.declared.timeouts.LeakTimeoutResult
 pub use Rattle.nextest_config_elements_choices.specs.declared.timeouts.SlowTimeoutResult

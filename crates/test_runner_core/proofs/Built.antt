@@ -24,7 +24,7 @@ use Rattle.test_runner_core_settings.proofs.Limits.{sets_limit}
 use Rattle.test_runner_core_workspace.specs.Lister.{Answer}
 use Rattle.test_runner_core_workspace.specs.declared.record.Binary.{Binary}
 
--- a number of failing tests that is one at least is a limit
+-- a weight of failing tests that is one at least is a limit
 is_limit : (limit : MaxFail) → IsOneAtLeast limit → IsPositiveLimit limit
 is_limit (limits.Count max_fail terminate) one = one
 is_limit limits.All one = tt

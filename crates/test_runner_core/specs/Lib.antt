@@ -29,6 +29,7 @@ pub use Rattle.test_runner_core_run_model.specs.Step
 pub use Rattle.test_runner_core_run_model.specs.Counters
 pub use Rattle.test_runner_core_run_model.specs.Runs
 pub use Rattle.test_runner_core_run_model.specs.Decisions
+pub use Rattle.test_runner_core_run_model.specs.FailLimit
 pub use Rattle.test_runner_core_run_model.specs.Laws as RunLaws
 -- a session by names, and what it keeps
 pub use Rattle.test_runner_core_session.specs.Names
@@ -88,6 +89,8 @@ pub use Rattle.nextest_run_events_counters.specs.Rows
 pub use Rattle.nextest_run_events_counters.specs.Summary
 -- limits and types
 pub use Rattle.test_runner_core_log_reader.specs.declared.limits.TheConstants as Limits
+pub use Rattle.nextest_config_elements_choices.specs.FailWeight
+pub use Rattle.nextest_config_elements_choices.specs.declared.fail_weight.FailWeightOutOfRange
 pub use Rattle.nextest_config_elements_choices.specs.declared.timeouts.FlakyResult
 pub use Rattle.nextest_config_elements_choices.specs.declared.timeouts.LeakTimeoutResult
 pub use Rattle.nextest_config_elements_choices.specs.declared.max_fail.MaxFail

@@ -37,8 +37,8 @@ use test_runner_core_workspace::{Lister, TableLister};
 ///
 /// Where no line is refused, the log agrees with an assignment and has no stop, and the run is
 /// complete, the status is that assignment's due status, and where no script of the assignment
-/// stops the run and its failing tests don't reach the limit the report ends with the final text of
-/// plan and assignment, in whatever order the tests ran; where the log is cut, or has a stop, the
+/// stops the run and its failing tests weigh less than the limit the report ends with the final text
+/// of plan and assignment, in whatever order the tests ran; where the log is cut, or has a stop, the
 /// status is that or a more severe one.
 ///
 /// The log is that of the bytes that the reader has left. Where these aren't known, as those of

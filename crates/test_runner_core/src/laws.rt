@@ -9,7 +9,7 @@ pub use test_runner_core_planning::laws::{
     selected_once, settled,
 };
 pub use test_runner_core_run_model::laws::{
-    after_a_reason, assigned_end, no_dead_end, reasons_first,
+    after_a_reason, assigned_end, limit_stop, no_dead_end, reasons_first, weights_of_one,
 };
 
 /// Whatever the lister answers, inputs and a log have one report at most: one text and one exit
@@ -50,7 +50,7 @@ pub fn cut_or_stopped()
 {}
 
 /// The tests of a run may come in any order: for an assignment of which no script stops the run and
-/// whose failing tests don't reach the limit, all logs that run the inputs to their end have
+/// whose failing tests weigh less than the limit, all logs that run the inputs to their end have
 /// reports that end with the same final text, byte for byte. Whatever the assignment, a reason
 /// stands at the end of such a log exactly where the assignment isn't such a one.
 pub fn one_report()

@@ -18,49 +18,103 @@ mod refused_line;
 mod whole_report;
 
 pub use check::first_refused;
-pub use entry::{judge, judge_stream};
+pub use entry::judge;
+pub use entry::judge_stream;
 pub use judge_fault::JudgeFault;
-pub use nextest_config_elements_choices::{
-    FlakyResult, LeakTimeoutResult, MaxFail, NextestRunMode, SlowTimeoutResult, TerminateMode,
-};
+pub use nextest_config_elements_choices::FailWeight;
+pub use nextest_config_elements_choices::FailWeightOutOfRange;
+pub use nextest_config_elements_choices::FlakyResult;
+pub use nextest_config_elements_choices::LeakTimeoutResult;
+pub use nextest_config_elements_choices::MaxFail;
+pub use nextest_config_elements_choices::NextestRunMode;
+pub use nextest_config_elements_choices::SlowTimeoutResult;
+pub use nextest_config_elements_choices::TerminateMode;
 pub use nextest_config_elements_identifiers::ConfigSourceKind;
-pub use nextest_run_events_counters::{
-    ExecutionStatuses, FinalRunStats, RunStats, RunStatsFailureKind,
-};
-pub use nextest_run_events_results::{
-    AbortDescription, CancelReason, ExecutionResultDescription, FailureDescription,
-    OwnedTestInstanceId, Record, RecordOutput, RustBinaryId, TestInstanceId,
-};
-pub use nextest_text::{Listing, Text, Texts};
+pub use nextest_run_events_counters::ExecutionStatuses;
+pub use nextest_run_events_counters::FinalRunStats;
+pub use nextest_run_events_counters::RunStats;
+pub use nextest_run_events_counters::RunStatsFailureKind;
+pub use nextest_run_events_results::AbortDescription;
+pub use nextest_run_events_results::CancelReason;
+pub use nextest_run_events_results::ExecutionResultDescription;
+pub use nextest_run_events_results::FailureDescription;
+pub use nextest_run_events_results::OwnedTestInstanceId;
+pub use nextest_run_events_results::Record;
+pub use nextest_run_events_results::RecordOutput;
+pub use nextest_run_events_results::RustBinaryId;
+pub use nextest_run_events_results::TestInstanceId;
+pub use nextest_text::Listing;
+pub use nextest_text::Text;
+pub use nextest_text::Texts;
 pub use nextest_version::PlainVersion;
-pub use refused_line::{LineRefusal, RefusedLine};
-pub use test_runner_core_inputs::{
-    ConfigSource, ConfigSourceOutcome, FactRecord, Inputs, InputsError, InputsRefusal,
-    PlatformRecord,
-};
-pub use test_runner_core_line_syntax::{
-    HexDigits, HexText, LentLine, LentOutput, LentRecord, LentStream, LogLine, ParseLineError,
-    SpellingError, reason_word,
-};
-pub use test_runner_core_log_reader::{
-    FIRST_LINE_LIMIT, LINE_LIMIT, LOG_LIMIT, LineFault, LogFault, LogLines, Next,
-};
-pub use test_runner_core_plan::{Plan, PlanSettings, PlanTest, SharedSettings};
-pub use test_runner_core_planning::{
-    BuildPlan, LoadFault, LoadKind, PlanError, PlanFault, ProfileNotFound,
-};
-pub use test_runner_core_platforms::{
-    Fact, PlatformFacts, PlatformFactsError, PlatformSpec, PlatformSpecError,
-};
-pub use test_runner_core_run_model::{Finished, Mark, RunTest, StepRefusal, exit_status};
+pub use refused_line::LineRefusal;
+pub use refused_line::RefusedLine;
+pub use test_runner_core_inputs::ConfigSource;
+pub use test_runner_core_inputs::ConfigSourceOutcome;
+pub use test_runner_core_inputs::FactRecord;
+pub use test_runner_core_inputs::Inputs;
+pub use test_runner_core_inputs::InputsError;
+pub use test_runner_core_inputs::InputsRefusal;
+pub use test_runner_core_inputs::PlatformRecord;
+pub use test_runner_core_line_syntax::HexDigits;
+pub use test_runner_core_line_syntax::HexText;
+pub use test_runner_core_line_syntax::LentLine;
+pub use test_runner_core_line_syntax::LentOutput;
+pub use test_runner_core_line_syntax::LentRecord;
+pub use test_runner_core_line_syntax::LentStream;
+pub use test_runner_core_line_syntax::LogLine;
+pub use test_runner_core_line_syntax::ParseLineError;
+pub use test_runner_core_line_syntax::SpellingError;
+pub use test_runner_core_line_syntax::reason_word;
+pub use test_runner_core_log_reader::FIRST_LINE_LIMIT;
+pub use test_runner_core_log_reader::LINE_LIMIT;
+pub use test_runner_core_log_reader::LOG_LIMIT;
+pub use test_runner_core_log_reader::LineFault;
+pub use test_runner_core_log_reader::LogFault;
+pub use test_runner_core_log_reader::LogLines;
+pub use test_runner_core_log_reader::Next;
+pub use test_runner_core_plan::Plan;
+pub use test_runner_core_plan::PlanSettings;
+pub use test_runner_core_plan::PlanTest;
+pub use test_runner_core_plan::SharedSettings;
+pub use test_runner_core_planning::BuildPlan;
+pub use test_runner_core_planning::LoadFault;
+pub use test_runner_core_planning::LoadKind;
+pub use test_runner_core_planning::PlanError;
+pub use test_runner_core_planning::PlanFault;
+pub use test_runner_core_planning::ProfileNotFound;
+pub use test_runner_core_platforms::Fact;
+pub use test_runner_core_platforms::PlatformFacts;
+pub use test_runner_core_platforms::PlatformFactsError;
+pub use test_runner_core_platforms::PlatformSpec;
+pub use test_runner_core_platforms::PlatformSpecError;
+pub use test_runner_core_run_model::Finished;
+pub use test_runner_core_run_model::Mark;
+pub use test_runner_core_run_model::RunTest;
+pub use test_runner_core_run_model::StepRefusal;
+pub use test_runner_core_run_model::exit_status;
 pub use test_runner_core_run_state::StartFault;
-pub use test_runner_core_session::{Fate, Session};
+pub use test_runner_core_session::Fate;
+pub use test_runner_core_session::Session;
 pub use test_runner_core_settings::owned_settings;
-pub use test_runner_core_streams::{
-    LogReader, MemoryReader, MemoryWriter, READ_LIMIT, ReportWriter, StdReader, StdWriter,
-    WriteFailure,
-};
-pub use test_runner_core_workspace::{
-    Binary, BinaryKind, BinaryTests, BuildPlatform, Link, ListFault, Lister, Package, TableLister,
-    Workspace, WorkspaceError, WorkspaceFault, WorkspaceRecord,
-};
+pub use test_runner_core_streams::LogReader;
+pub use test_runner_core_streams::MemoryReader;
+pub use test_runner_core_streams::MemoryWriter;
+pub use test_runner_core_streams::READ_LIMIT;
+pub use test_runner_core_streams::ReportWriter;
+pub use test_runner_core_streams::StdReader;
+pub use test_runner_core_streams::StdWriter;
+pub use test_runner_core_streams::WriteFailure;
+pub use test_runner_core_workspace::Binary;
+pub use test_runner_core_workspace::BinaryKind;
+pub use test_runner_core_workspace::BinaryTests;
+pub use test_runner_core_workspace::BuildPlatform;
+pub use test_runner_core_workspace::Link;
+pub use test_runner_core_workspace::ListFault;
+pub use test_runner_core_workspace::Lister;
+pub use test_runner_core_workspace::Package;
+pub use test_runner_core_workspace::TableLister;
+pub use test_runner_core_workspace::Workspace;
+pub use test_runner_core_workspace::WorkspaceError;
+pub use test_runner_core_workspace::WorkspaceFault;
+pub use test_runner_core_workspace::WorkspaceRecord;

@@ -52,7 +52,7 @@ pub struct Plan {
     /// The tests that are listed and not selected: the binaries' in their order, each as it lists
     /// them.
     pub skipped: Listing<OwnedTestInstanceId>,
-    /// How many failing tests stop the run.
+    /// At which weight failing tests stop the run.
     pub limit: MaxFail,
     /// Which statuses are shown.
     pub levels: StatusLevels,

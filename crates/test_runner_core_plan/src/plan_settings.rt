@@ -1,5 +1,5 @@
 // The settings of a selected test.
-use nextest_config_elements_choices::{FlakyResult, TestOutputDisplay};
+use nextest_config_elements_choices::{FailWeight, FlakyResult, TestOutputDisplay};
 use nextest_config_elements_identifiers::TestGroup;
 use nextest_config_elements_values::{
     JunitFlakyFailStatus, LeakTimeout, ReportSkipPolicy, RetryPolicy, SlowTimeout, TestPriority,
@@ -24,6 +24,8 @@ pub struct PlanSettings {
     pub retries: RetryPolicy,
     /// `flaky-result`: what becomes of it where it passes on a later attempt than its first.
     pub flaky_result: FlakyResult,
+    /// `fail-weight`: how much it weighs where it fails.
+    pub fail_weight: FailWeight,
     /// `slow-timeout`: when it is slow, and when it is ended for that.
     pub slow_timeout: SlowTimeout,
     /// `leak-timeout`: how long handles may stay open behind it.
@@ -73,6 +75,7 @@ impl Drop for PlanSettings {
             run_extra_args: _,
             retries: _,
             flaky_result: _,
+            fail_weight: _,
             slow_timeout: _,
             leak_timeout: _,
             test_group: _,

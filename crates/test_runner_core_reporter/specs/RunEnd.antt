@@ -90,7 +90,8 @@ counter_lines stats =
     number_line (codes "initial-run-count") stats.initial_run_count
     ++ (number_line (codes "finished-count") stats.finished_count
     ++ (script_lines stats ++ (passed_lines stats ++ (failed_lines stats
-    ++ number_line (codes "skipped") stats.skipped))))
+    ++ (number_line (codes "skipped") stats.skipped
+    ++ number_line (codes "failed-weight") stats.failed_weight)))))
 
 -- the exit status, the outcome, the counters, and why the run was stopped
 abbrev pub end_text : RunEnd → List ℕ

@@ -203,6 +203,10 @@ impl fmt::Display for CounterLines {
         let passed = PassedLines(stats);
         let failed = FailedLines(stats);
         let skipped = NumberLine("skipped", stats.skipped);
-        write!(f, "{initial}{finished}{scripts}{passed}{failed}{skipped}")
+        let weight = NumberLine("failed-weight", stats.failed_weight);
+        write!(
+            f,
+            "{initial}{finished}{scripts}{passed}{failed}{skipped}{weight}"
+        )
     }
 }

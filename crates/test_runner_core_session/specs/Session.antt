@@ -27,7 +27,7 @@ abbrev pub place_in : Plan → List ℕ → List ℕ → ℕ
 place_in plan id name = place_of (names_of plan) id name
 
 abbrev pub run_test : PlanTest → RunTest
-run_test test = record { tries = test.tries; flaky = test.settings.flaky_result }
+run_test test = record { tries = test.tries; flaky = test.settings.flaky_result; weight = test.settings.fail_weight }
 
 -- a plan as a run sees it
 abbrev pub run_plan : Plan → RunPlan

@@ -3,6 +3,7 @@ ghost use Rattle.std.specs.Prelude.{◌≡◌, IfOk, is_some, map, slice_get};
 ghost use Rattle.test_runner_core_run_state.specs.Progress.{Takes, Starts};
 ghost use Rattle.test_runner_core_run_state.specs.Statuses.{IsScriptStatus};
 ghost use Rattle.test_runner_core_run_model.specs.Counters as counters;
+ghost use Rattle.test_runner_core_run_model.specs.FailLimit.{StopsAtLimit};
 ghost use Rattle.test_runner_core_run_model.specs.Runs as runs;
 ghost use Rattle.test_runner_core_run_model.specs.declared.event.Event.TheVariants as events;
 ghost use Rattle.test_runner_core_session.specs.Names.{script_place};
@@ -24,7 +25,7 @@ use test_runner_core_run_state::{KeepAttempts, Progress, StartFault};
 pub struct KeptTest<'s, A> {
     /// Whether it waits, runs, is between two attempts or is finished.
     pub mark: Mark,
-    /// How many attempts it has at most, and its flaky rule.
+    /// How many attempts it has at most, its flaky rule and its weight.
     pub plan: RunTest,
     /// What is kept of its ended attempts.
     pub attempts: &'s A,
@@ -129,8 +130,9 @@ impl<'a, A: KeepAttempts> PlanRun<'a, A> {
         self.progress.start(place)
     }
 
-    /// What the step finished: the attempt of a test that runs ended so. Takes no memory. An `Err`
-    /// says why that can't be, and leaves everything as it was.
+    /// What the step finished: the attempt of a test that runs ended so. Where that lets the
+    /// failing tests weigh as much as the limit, the run is stopped. Takes no memory. An `Err` says
+    /// why that can't be, and leaves everything as it was.
     pub fn attempt_finished(
         &mut self,
         test: TestInstanceId<'_>,
@@ -140,6 +142,7 @@ impl<'a, A: KeepAttempts> PlanRun<'a, A> {
         ensures step { Takes self.old.run (events.Ended
             (place_in self.old.plan test.entry.binary_id.now test.entry.test_name.now)
             (A.record_of ending)) result self.new.run }
+        ensures limit { StopsAtLimit self.old.run self.new.run }
     {
         let place = self.places.find(test);
         self.progress.attempt_finished(place, ending)
@@ -250,6 +253,7 @@ fn planned_tests(alloc: Global, tests: &[PlanTest]) -> Result<Vec<RunTest>, Allo
         planned.push(RunTest {
             tries: test.tries,
             flaky: test.settings.flaky_result,
+            weight: test.settings.fail_weight,
         })?;
     }
     Ok(planned)

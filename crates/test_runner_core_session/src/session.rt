@@ -15,7 +15,7 @@ use test_runner_core_run_state::{KeptRecords, KeptStatuses};
 pub struct Fate<'s> {
     /// Whether it waits, runs, is between two attempts or is finished.
     pub mark: Mark,
-    /// How many attempts it has at most, and its flaky rule.
+    /// How many attempts it has at most, its flaky rule and its weight.
     pub plan: RunTest,
     /// Its ended attempts; `None` where none ended.
     pub attempts: Option<&'s ExecutionStatuses<LiveSpec>>,

@@ -71,6 +71,7 @@ one_lent mode layers one other a b =
     let arguments = same.run_extra_args in
     let retries = same.retries in
     let flaky = same.flaky_result in
+    let weight = same.fail_weight in
     let slow = same.slow_timeout in
     let leak = same.leak_timeout in
     let group = same.test_group in

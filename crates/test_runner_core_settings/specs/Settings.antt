@@ -31,6 +31,7 @@ owned_of it = record {
   run_extra_args = it.run_extra_args.0.now;
   retries = it.retries.0;
   flaky_result = it.flaky_result.0;
+  fail_weight = it.fail_weight.0;
   slow_timeout = it.slow_timeout.0;
   leak_timeout = it.leak_timeout.0;
   test_group = group_of it.test_group.0;
@@ -57,7 +58,7 @@ pub record AreOfTest (cx : Context) (platforms : Platforms) (mode : NextestRunMo
   pub scripts_are : AreHeld (ScriptRuleHolds cx platforms default test) profile.script_rules scripts
   pub settings : AreOwned mode (layers_of profile held scripts) it
 
--- how many failing tests stop a run, and what is shown of it, is what the chain has
+-- at which weight failing tests stop a run, and what is shown of it, is what the chain has
 pub record IsOfChain (chain : List ProfileConfig) (it : RunSettings) : Type 0 where
   pub max_fail : OfProfiles key.fail_fast chain fallback.fail_fast it.max_fail
   pub status_level : OfProfiles key.status_level chain fallback.status_level it.levels.status_level

@@ -29,7 +29,7 @@ pub struct RunSettings {
     pub default_filter: Text,
     /// The groups of tests that a filterset may name.
     pub known_groups: KnownGroups,
-    /// How many failing tests stop the run.
+    /// At which weight failing tests stop the run.
     pub max_fail: MaxFail,
     /// Which statuses are shown.
     pub levels: StatusLevels,

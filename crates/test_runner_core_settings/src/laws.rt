@@ -32,7 +32,7 @@ pub fn enabled()
     ensures defined { EnabledIsDefined }
 {}
 
-/// How many failing tests stop a run is one at least.
+/// The weight at which failing tests stop a run is 1 at least.
 pub fn sets_limit()
     ensures { SetsLimit }
 {}

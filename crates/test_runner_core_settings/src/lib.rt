@@ -1,5 +1,6 @@
-//! What the configuration of inputs sets: for their run, how many failing tests stop it and what is
-//! shown of tests; and the settings of each test; or why there is no such configuration or profile.
+//! What the configuration of inputs sets: for their run, at which weight failing tests stop it and
+//! what is shown of tests; and the settings of each test; or why there is no such configuration or
+//! profile.
 #![tactic(auto)]
 
 mod configured;

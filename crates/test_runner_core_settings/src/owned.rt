@@ -37,6 +37,7 @@ fn with_group(
         run_extra_args: owned_texts(alloc, settings.run_extra_args())?,
         retries: settings.retries(),
         flaky_result: settings.flaky_result(),
+        fail_weight: settings.fail_weight(),
         slow_timeout: settings.slow_timeout(),
         leak_timeout: settings.leak_timeout(),
         test_group,
