@@ -51,7 +51,9 @@ pub(crate) fn shown_test_at<'s>(
     let plan = session.plan();
     let tests = plan.tests.as_slice();
     let test = tests.get(place)?;
-    let kept = session.kept_at(place)?;
+    let Some(kept) = session.kept_at(place) else {
+        return None;
+    };
     let records = kept.attempts.as_slice();
     Some(ShownTest {
         shows: shows_of(plan, test),

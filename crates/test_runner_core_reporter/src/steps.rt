@@ -135,7 +135,9 @@ fn report_at<W: ReportWriter>(
 fn mark_at(session: &RecordSession<'_>, place: usize) -> Option<Mark>
     ensures { result ≡ option_map (λ test. test.mark) (slice_get session.now.run.tests place) }
 {
-    let kept = session.kept_at(place)?;
+    let Some(kept) = session.kept_at(place) else {
+        return None;
+    };
     Some(kept.mark)
 }
 

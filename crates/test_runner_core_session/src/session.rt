@@ -42,7 +42,9 @@ impl<'a> Session<'a> {
     pub fn fate_at(&self, place: usize) -> Option<Fate<'_>>
         ensures { IsFate (slice_get self.now.run.tests place) result }
     {
-        let kept = self.kept_at(place)?;
+        let Some(kept) = self.kept_at(place) else {
+            return None;
+        };
         Some(Fate {
             mark: kept.mark,
             plan: kept.plan,

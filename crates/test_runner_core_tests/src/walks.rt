@@ -96,7 +96,9 @@ fn fails(alloc: Global, run: &mut Session<'_>, binary: &str) -> Told {
 
 // How far the test a of a binary is, and how many of its attempts ended.
 fn fate_of(run: &Session<'_>, binary: &str) -> Option<(Mark, usize)> {
-    let fate = run.fate(test_a_of(binary))?;
+    let Some(fate) = run.fate(test_a_of(binary)) else {
+        return None;
+    };
     Some((
         fate.mark,
         fate.attempts.map_or(0, |attempts| attempts.len()),
