@@ -15,10 +15,10 @@ returns-in_err-test c =
     ∙ sym (no_test session.plan session.plan.tests session.run.tests c.args.place
     (subst (λ (xs : List PlanTest). slice_get xs c.args.place ≡ None) same (slice_get_past c.as_slice-tests.result.now c.args.place c.in_err-test.ensures.lookup.3)))
 
-pub returns-in_err-kept : goal.returns-in_err-kept
-returns-in_err-kept c =
+pub returns-in_default : goal.returns-in_default
+returns-in_default c =
     let session = c.args.session.now in
-    c.from_residual-in_err-kept.ensures ∙ sym (kept_none _ _ session.plan session.plan.tests session.run.tests c.args.place c.in_err-kept.ensures)
+    sym (kept_none _ _ session.plan session.plan.tests session.run.tests c.args.place c.in_default.ensures)
 
 pub returns : goal.returns
 returns c =
@@ -28,6 +28,6 @@ returns c =
     let test = c.in_ok-test.test.now in
     let here : slice_get session.plan.tests c.args.place ≡ Some test =
     subst (λ (xs : List PlanTest). slice_get xs c.args.place ≡ Some test) same (slice_get_read c.as_slice-tests.result.now (length c.as_slice-tests.result.now) c.args.place test refl lookup.3.0 lookup.1) in
-    kept_some _ _ session.plan session.plan.tests session.run.tests c.args.place test c.in_ok-kept.kept c.shows_of.result c.new.result _ here c.in_ok-kept.ensures
+    kept_some _ _ session.plan session.plan.tests session.run.tests c.args.place test c.in-Some.kept c.shows_of.result c.new.result _ here c.in-Some.ensures
     (c.shows_of.ensures ∙ ap (λ (p : Plan). shows_of p test) c.plan-plan.ensures)
     (c.new.ensures.binary ∙ c.as_ref.ensures.binary_id) (c.new.ensures.name ∙ c.as_ref.ensures.test_name) c.new.ensures.state c.as_slice-records.ensures
