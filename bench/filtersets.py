@@ -5,11 +5,15 @@ Run it from the repository's root, with the kit's `rt` and a C compiler `cc` on 
 away again.
 """
 import os
+import pathlib
 import shutil
 import subprocess
+import sys
 import time
 
-from failing_allocations import fail_each
+sys.dont_write_bytecode = True
+sys.path.insert(0, str(pathlib.Path(__file__).resolve().parent.parent / "scripts"))
+from failing_allocations import fail_each, failing_runs
 
 CRATE = "crates/filterset_bench"
 PROGRAM = CRATE + "/out/filterset_bench"
@@ -81,9 +85,12 @@ def measure():
 
 
 def fail_requests():
-    for sample in SAMPLES:
-        count, wanting, _ = fail_each(PROGRAM, sample.encode(), 1)
-        print(f"{count} requests failed in turn, {wanting} runs end for want of memory: {sample}")
+    with failing_runs() as failing:
+        for sample in SAMPLES:
+            told = fail_each(failing, PROGRAM, sample.encode(), 1, is_silent=False)
+            if told.differing:
+                sys.exit(f"{sample}: {told.differing[0]}")
+            print(f"{told.requests} requests failed in turn, {told.wanting} runs end for want of memory: {sample}")
 
 
 def main():

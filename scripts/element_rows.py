@@ -656,6 +656,10 @@ KINDS = {
     "priority": lambda it: whole(PRIORITY, it),
     "report-skipped": lambda it: whole(SKIPPED, it),
     "flaky-fail-status": lambda it: whole(FLAKY_STATUS, it),
+    "custom-test-group": lambda it: whole(IDENTIFIER, it),
+    "terminate-mode": lambda it: whole(TERMINATE, it),
+    "slow-result": lambda it: whole(SLOW, it),
+    "leak-result": lambda it: whole(LEAK, it),
 }
 
 # ---- values: the rows
@@ -748,6 +752,10 @@ BY_HAND = {
     "priority": [100, 101, -100, -101, 99, 128, -128, -129, 256, 2**32, 2**62, MOST_COUNT, LEAST, "0", "high", "100"],
     "report-skipped": ["none", "ignored", "all", "None", "IGNORED", "skipped", "ignore"],
     "flaky-fail-status": ["failure", "success", "fail", "pass", "Failure", "SUCCESS"],
+    "custom-test-group": [*NAMES],
+    "terminate-mode": ["wait", "immediate", "Wait", "IMMEDIATE", "pass"],
+    "slow-result": ["pass", "fail", "Pass", "FAIL", "wait"],
+    "leak-result": ["pass", "fail", "Pass", "FAIL", "leak"],
 }
 # another way to write a value
 SPELLED = [

@@ -31,7 +31,8 @@ COMPILED_HEAD = """# Made by scripts/filterset_rows.py. WORKSPACE KIND GROUPS FI
 # GROUPS are the known ones, or `-` where they aren't known.
 """
 ANSWERS_HEAD = """# Made by scripts/filterset_rows.py. WORKSPACE DEFAULT BINARY TEST GROUP FILTERSET => the value on the binary, and that on the test,
-# where DEFAULT is the default filter and TEST a test of the binary that is in GROUP. Which groups there are isn't known.
+# where DEFAULT is the default filter, `-` the one that is made to hold on all, and TEST a test of the binary that is in GROUP. Which
+# groups there are isn't known.
 """
 
 
@@ -200,6 +201,7 @@ chain test @global  => ExpectedExpr 0 0
 """
 
 ANSWERS_BY_HAND = """
+chain - a a @global default() => binary true, test true
 line all() p64 a @global deps(=p0) => binary true, test true
 line all() p0 a @global rdeps(=p64) => binary true, test true
 line all() p63 a @global deps(=p64) => binary false, test false

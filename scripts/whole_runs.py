@@ -16,9 +16,11 @@ import os
 import pathlib
 import re
 import resource
+import signal
 import socket
 import subprocess
 import sys
+import tempfile
 import threading
 
 ROOT = pathlib.Path(__file__).resolve().parent.parent
@@ -32,8 +34,8 @@ BY_RATTLE = ".by-rattle"
 # The most seconds that a run takes, and the most characters that are shown of an answer.
 LIMIT, SHOWN = 60, 10_000
 
-# The bytes of stack that deep inputs get.
-SMALL_STACK = 256 * 1024
+# The bytes of stack that deep inputs get, and those that a program usually has.
+SMALL_STACK, USUAL_STACK = 256 * 1024, 8 * 1024 * 1024
 
 # The pieces in which short streams are fed once more, in bytes, and which are short.
 PIECES, SHORT = (1, 7), 65_536
@@ -62,6 +64,14 @@ RULES = {
     "pass": "flaky-result = 'pass', fail-fast = false",
     "fail": "flaky-result = 'fail', fail-fast = false",
     "pass immediate": "fail-fast = { max-fail = 1, terminate = 'immediate' }",
+}
+
+# What a part of a row of deep inputs is in their source.
+SOURCES = {
+    "toml": "{}\n",
+    "default-filter": "[profile.default]\ndefault-filter = '{}'\n",
+    "filter": "[[profile.default.overrides]]\nfilter = '{}'\nretries = 1\n",
+    "platform": "[[profile.default.overrides]]\nplatform = '{}'\nretries = 1\n",
 }
 
 
@@ -144,12 +154,23 @@ class Program:
         process = subprocess.run([self.path], input=as_fed(stream), capture_output=True, timeout=LIMIT)
         return ended(process, process.stdout, process.stderr)
 
-    def run_on_small_stack(self, stream):
+    def run_on_stack(self, stream, size):
         def limit():
-            resource.setrlimit(resource.RLIMIT_STACK, (SMALL_STACK, SMALL_STACK))
+            resource.setrlimit(resource.RLIMIT_STACK, (size, size))
 
         process = subprocess.run([self.path], input=as_fed(stream), capture_output=True, timeout=LIMIT, preexec_fn=limit)
         return ended(process, process.stdout, process.stderr)
+
+    def run_into(self, file, stream, size, is_ignored):
+        """The status where the report goes to a file of so many bytes at most, with the signal for that as usual or ignored."""
+
+        def limit():
+            resource.setrlimit(resource.RLIMIT_CORE, (0, 0))
+            resource.setrlimit(resource.RLIMIT_FSIZE, (size, size))
+
+        # Python itself ignores the signal.
+        how = {"stdout": file, "stderr": subprocess.DEVNULL, "timeout": LIMIT, "preexec_fn": limit}
+        return subprocess.run([self.path], input=as_fed(stream), restore_signals=not is_ignored, **how).returncode
 
     def run_in_pieces(self, stream, piece):
         """The same, where each read gets so many bytes."""
@@ -361,22 +382,48 @@ def roads(program, changes):
     return ", ".join(" ".join(it) for it in sorted(tests, key=lambda test: [part.encode() for part in test])) or "none"
 
 
-def deep_inputs(program, row):
-    """The status on a small stack, and why the inputs are refused, or how many tests are planned."""
-    key, text = row.split(": ", 1)
-    inputs = json.loads(PLAN(""))
-    if key == "filterset":
-        inputs["filterset"] = text
-    if key == "platform":
-        rule = f"[[profile.default.overrides]]\nplatform = '{text}'\nfilter = 'all()'\n"
-        inputs["sources"] = [{"kind": "explicit", "path": "n", "text": rule}]
+def deep(program, row, stack):
+    """The status on such a stack, and why the inputs are refused, or how many tests are planned, and with an override of how many tries."""
+    parts = dict(part.split(": ", 1) for part in row.split(BAR))
+    inputs, source = json.loads(PLAN("")), "".join(SOURCES[key].format(text) for key, text in parts.items() if key in SOURCES)
+    if source:
+        inputs["sources"] = [{"kind": "explicit", "path": "n", "text": source}]
+    if "filterset" in parts:
+        inputs["filterset"] = parts["filterset"]
     line = json.dumps(inputs, ensure_ascii=False)
-    if key == "member":
-        line = f'{{"x":{text},{line[1:]}'
-    run = program.run_on_small_stack(line + "\n" + with_tabs(BOTH_PASS))
+    if "member" in parts:
+        line = f'{{"x":{parts["member"]},{line[1:]}'
+    run = program.run_on_stack(line + "\n" + with_tabs(BOTH_PASS), stack)
     fields = run.fields()
-    told = f"refused {fields[1]}" if fields[0] == "refused" else f"{counter('initial-run-count', run)} tests"
-    return f"status {run.status}, {told}"
+    if fields[0] == "refused":
+        return f"status {run.status}, refused {fields[1]}"
+    if run.final_text() is None:
+        return run.shown()
+    told = f"status {run.status}, {counter('initial-run-count', run)} tests"
+    if parts.keys() & {"filter", "platform"}:
+        told += f" of {' and '.join(re.findall(r'^done.*/(.*)$', run.report, re.M))} tries"
+    return told
+
+
+def deep_inputs(program, row):
+    return deep(program, row, SMALL_STACK)
+
+
+def reader_limits(program, row):
+    return deep(program, row, USUAL_STACK)
+
+
+def file_limits(program, row):
+    """How a program ends whose report goes to a file that may not have all of it, and how many bytes of it are missing there."""
+    fewer, word = row.split(" ")
+    stream = on_a_line(PLAN("")) + with_tabs(BOTH_PASS)
+    whole = program.run(stream).report.encode()
+    with tempfile.TemporaryFile() as file:
+        status = program.run_into(file, stream, len(whole) - int(fewer), word == "ignored")
+        file.seek(0)
+        written = file.read()
+    told = f"status {status}" if status >= 0 else signal.Signals(-status).name
+    return f"{told}, " + (f"{len(whole) - len(written)} bytes missing" if whole.startswith(written) else "other bytes")
 
 
 def agrees(kind, log, first):
@@ -422,6 +469,8 @@ TABLES = {
     "refused_lines": refused_lines,
     "deep_inputs": deep_inputs,
     "json_members": deep_inputs,
+    "reader_limits": reader_limits,
+    "file_limits": file_limits,
 }
 
 # Those whose rows take up to some 2 GB of memory, so that few are run side by side.

@@ -3,9 +3,9 @@
 use crate::page::Page;
 use crate::table::{Table, rows_hold};
 use crate::{
-    asking, attempts, commands, compiled, configs, elements, ends, filter_texts, filter_trees,
-    log_lines, orders, outputs, platform_specs, stress, summaries, test_settings, values, verdicts,
-    visibility,
+    asking, attempts, calls_again, commands, compiled, configs, elements, ends, events,
+    filter_texts, filter_trees, log_lines, orders, outputs, platform_specs, stress, summaries,
+    test_settings, values, verdicts, visibility,
 };
 use anyhow::Result;
 use std::rt::Files;
@@ -78,7 +78,12 @@ plain_filters
 filters
 plain_specs
 platform_specs
-plain_configs";
+plain_configs
+programs
+script_runs
+selections
+events
+calls_again";
 
 // The table of a name.
 #[derive(Drop)]
@@ -109,6 +114,7 @@ fn of_layers(page: &mut Page, name: &str, input: &str) -> Option<()> {
     match name {
         "loads" => configs::loads(page, input),
         "test_settings" => test_settings::test_settings(page, input),
+        "selections" => configs::selections(page, input),
         "warnings" => configs::warnings(page, input),
         "plain_filters" => asking::plain_filters(page, input),
         "filters" => asking::filters(page, input),
@@ -117,6 +123,8 @@ fn of_layers(page: &mut Page, name: &str, input: &str) -> Option<()> {
         "plain_configs" => asking::plain_configs(page, input),
         "log_lines" => log_lines::log_lines(page, input),
         "commands" => commands::commands(page, input),
+        "programs" => commands::programs(page, input),
+        "script_runs" => commands::script_runs(page, input),
         _ => of_filter_trees(page, name, input),
     }
 }
@@ -195,6 +203,7 @@ fn of_stress(page: &mut Page, name: &str, input: &str) -> Option<()> {
         "orders" => orders::orders(page, input),
         "shown_texts" => orders::shown_texts(page, input),
         "words" => orders::words(page, input),
+        "events" => events::events(page, input),
         _ => of_names(page, name, input),
     }
 }
@@ -222,6 +231,7 @@ fn of_numbers(page: &mut Page, name: &str, input: &str) -> Option<()> {
         "priorities" => elements::priorities(page, input),
         "fail_weights" => elements::fail_weights(page, input),
         "threads" => elements::threads(page, input),
+        "calls_again" => calls_again::calls_again(page, input),
         _ => None,
     }
 }

@@ -1,9 +1,11 @@
 // Attempts of tests, and runs of setup scripts.
+use crate::calls_again::{CHANGED, TURNS};
+use crate::configs::BAR;
 use crate::ends::described_end;
 use crate::page::{Page, Whole};
 use crate::parts::{Word, list_of, two};
 use crate::values::word_as;
-use crate::{show, some};
+use crate::{ok, show, some};
 use nextest_config_elements::{FailWeight, FlakyResult};
 use nextest_run_events::{
     ChildExecutionOutputDescription, ChildOutputDescription, ExecuteStatus, ExecutionStatuses,
@@ -52,7 +54,7 @@ pub(crate) fn attempts(page: &mut Page, input: &str) -> Option<()> {
     let rule = some!(word_as::<FlakyResult>(page.alloc, rule));
     let attempts = some!(list_of::<ExecuteStatus<NoOutput>>(page.alloc, ends, ", "));
     match ExecutionStatuses::from_parts(Listing::from(attempts), rule) {
-        Ok(attempts) => attempts_told(page, &attempts),
+        Ok(attempts) => attempts_told(page, &ok!(attempts.clone())),
         Err(refusal) => page.show(refusal),
     }
     Some(())
@@ -71,6 +73,29 @@ fn attempts_told(page: &mut Page, attempts: &ExecutionStatuses<NoOutput>) {
     counters_told(page, &stats);
 }
 
+// The same of attempts behind which room is made for one more, which ended as is said behind a bar.
+pub(crate) fn reserve_one(page: &mut Page, input: &str) -> Option<()> {
+    let (input, last) = two(input, BAR);
+    let (rule, ends) = two(input, ": ");
+    let rule = some!(word_as::<FlakyResult>(page.alloc, rule));
+    let ended = some!(list_of::<ExecuteStatus<NoOutput>>(page.alloc, ends, ", "));
+    let last = some!(ExecuteStatus::<NoOutput>::of_word(page.alloc, last));
+    let mut attempts = ok!(ExecutionStatuses::from_parts(Listing::from(ended), rule));
+    let kept = ok!(attempts.clone());
+    for turn in TURNS {
+        if attempts.reserve_one().is_ok() {
+            attempts.push_reserved(last);
+            attempts_told(page, &attempts);
+            page.show(turn);
+            return Some(());
+        }
+        if attempts != kept {
+            page.show(CHANGED);
+        }
+    }
+    None
+}
+
 // How a setup script ended: the counters of a run of this script alone.
 pub(crate) fn scripts(page: &mut Page, input: &str) -> Option<()> {
     let status: SetupScriptExecuteStatus<LiveSpec> = SetupScriptExecuteStatus {
@@ -87,7 +112,7 @@ pub(crate) fn scripts(page: &mut Page, input: &str) -> Option<()> {
         error_summary: None,
     };
     let mut stats = RunStats::default();
-    stats.on_setup_script_finished(&status);
+    stats.on_setup_script_finished(&ok!(status.clone()));
     counters_told(page, &stats);
     Some(())
 }

@@ -1,4 +1,5 @@
 // Filtersets that a workspace accepts or not, and what they are on binaries and on tests.
+use crate::calls_again::TURNS;
 use crate::page::{Page, Whole};
 use crate::parts::{Word, three, two};
 use crate::workspaces::{binary, workspace};
@@ -15,7 +16,7 @@ pub(crate) fn compiled(page: &mut Page, input: &str) -> Option<()> {
     let (name, kind, rest) = three(input);
     let (groups, text) = two(rest, " ");
     let kind = some!(kind_of(kind));
-    let known = some!(known_groups(page.alloc, groups));
+    let known = ok!(some!(known_groups(page.alloc, groups)).clone());
     let cx = some!(workspace(page.alloc, name));
     verdict_told(page, &cx, kind, &known, text)
 }
@@ -27,13 +28,19 @@ fn verdict_told(
     known: &KnownGroups,
     text: &str,
 ) -> Option<()> {
-    let text = ok!(Text::from_str(page.alloc, text));
-    match &Filterset::parse(page.alloc, text, cx, kind, known) {
-        Ok(_) => page.show("accepted"),
-        Err(FiltersetError::Refused(refused)) => faults_told(page, refused.errors.as_slice()),
-        Err(FiltersetError::OutOfMemory) => return None,
+    for turn in TURNS {
+        let text = ok!(Text::from_str(page.alloc, text));
+        match &Filterset::parse(page.alloc, text, cx, kind, known) {
+            Ok(_) => page.show("accepted"),
+            Err(FiltersetError::Refused(refused)) => {
+                faults_told(page, ok!(refused.clone()).errors.as_slice());
+            }
+            Err(FiltersetError::OutOfMemory) => continue,
+        }
+        page.show(turn);
+        return Some(());
     }
-    Some(())
+    None
 }
 
 fn kind_of(word: &str) -> Option<FiltersetKind> {
@@ -67,8 +74,8 @@ fn faults_told(page: &mut Page, faults: &[ParseSingleError]) {
     }
 }
 
-// A workspace, the default filter, a binary, a test, its group, and a filterset: its value on the
-// binary and on the test.
+// A workspace, the default filter, `-` for the one that holds on all, a binary, a test, its group,
+// and a filterset: its value on the binary and on the test.
 pub(crate) fn answers(page: &mut Page, input: &str) -> Option<()> {
     let (name, default, rest) = three(input);
     let (id, test_name, rest) = three(rest);
@@ -92,9 +99,17 @@ fn asked(
     test: &TestQuery<'_>,
     group: &str,
 ) -> Option<()> {
-    let default = some!(accepted(page.alloc, cx, FiltersetKind::DefaultFilter, default));
+    let default = some!(default_filter(page.alloc, cx, default));
     let filterset = some!(accepted(page.alloc, cx, FiltersetKind::Test, text));
-    value_told(page, &filterset.compiled, &default.compiled, test, group)
+    value_told(page, &filterset, &default, test, group)
+}
+
+// The default filter of a text, `-` for the one that holds on all.
+fn default_filter(alloc: Global, cx: &ParseContext, text: &str) -> Option<CompiledExpr> {
+    if text == "-" {
+        return CompiledExpr::all(alloc).ok();
+    }
+    Some(some!(accepted(alloc, cx, FiltersetKind::DefaultFilter, text)).compiled)
 }
 
 // The filterset of a text, where no group is known.
@@ -105,13 +120,15 @@ fn accepted(
     text: &str,
 ) -> Option<Filterset> {
     let text = ok!(Text::from_str(alloc, text));
-    Filterset::parse(alloc, text, cx, kind, &KnownGroups::Unavailable).ok()
+    let filterset = Filterset::parse(alloc, text, cx, kind, &KnownGroups::Unavailable);
+    ok!(filterset).clone().ok()
 }
 
-// The value of a filter on a test's binary, and on the test, which is in the group.
+// The value of a filterset on a test's binary, and on the test, which is in the group, as both its
+// evaluator for the binary and it itself tell that.
 fn value_told(
     page: &mut Page,
-    filter: &CompiledExpr,
+    filterset: &Filterset,
     default: &CompiledExpr,
     test: &TestQuery<'_>,
     group: &str,
@@ -121,6 +138,7 @@ fn value_told(
     }
     let alloc = page.alloc;
     let ecx = EvalContext::new(default);
+    let filter = &filterset.compiled;
     let mut asked = ok!(BinaryEvaluator::new(alloc, filter, &ecx, &test.binary_query));
     page.show(match ok!(asked.matches_binary()) {
         Some(true) => "binary true",
@@ -130,6 +148,9 @@ fn value_told(
     let groups = InGroup { alloc, group };
     let on_test = ok!(asked.matches_test_with_groups(test.test_name, &groups));
     show!(page; ", test ", on_test);
+    if on_test != ok!(filterset.matches_test_with_groups(alloc, test, &ecx, &groups)) {
+        page.show(", and not");
+    }
     Some(())
 }
 

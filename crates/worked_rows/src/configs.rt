@@ -1,4 +1,5 @@
 // What sources of configurations come to, and what is told of a file.
+use crate::calls_again::TURNS;
 use crate::page::Page;
 use crate::parts::{Word, list_of, three, two};
 use crate::plain_filter::PlainFilter;
@@ -7,9 +8,9 @@ use crate::settings::setting_told;
 use crate::{ok, show, some};
 use nextest_config_elements::{FeatureSet, VersionOnlyConfig, VersionOnlyError, VersionSource};
 use nextest_config_resolution::{
-    BuildPlatforms, ConfigSource, ConfigSourceKind, ConfigSourceOutcome, DefaultConfigWarnings,
-    EvaluatableProfile, LoadError, LoadFault, NextestConfig, ProfileError, ToolName, counted,
-    warn_file,
+    BuildPlatforms, ConfigFileSelection, ConfigPaths, ConfigSource, ConfigSourceKind,
+    ConfigSourceOutcome, DefaultConfigWarnings, EvaluatableProfile, LoadError, LoadFault,
+    NextestConfig, ProfileError, ToolName, counted, warn_file,
 };
 use nextest_text::{Listing, Text};
 use std::alloc::Global;
@@ -31,11 +32,12 @@ pub(crate) fn sources_of(alloc: Global, sources: &str) -> Option<Vec<ConfigSourc
 impl Word for ConfigSource {
     fn of_word(alloc: Global, source: &str) -> Option<ConfigSource> {
         let (kind, path, outcome) = three(source);
-        Some(ConfigSource {
+        let source = ConfigSource {
             kind: some!(kind_of(alloc, kind)),
             path: ok!(Text::from_str(alloc, path)),
             outcome: some!(outcome_of(alloc, outcome)),
-        })
+        };
+        source.clone().ok()
     }
 }
 
@@ -72,14 +74,55 @@ pub(crate) fn loads(page: &mut Page, input: &str) -> Option<()> {
 fn loaded(page: &mut Page, sources: &[ConfigSource], head: &str) -> Option<()> {
     let (name, settings, words) = three(head);
     let features = some!(features_of(page.alloc, words, sources));
-    match PlainConfig::from_sources(page.alloc, "/work", &(), sources, features) {
-        Ok(config) => settings_told(page, &config, name, settings),
-        Err(LoadError::Refused(fault)) => {
-            refusal_told(page, &fault);
-            Some(())
+    for turn in TURNS {
+        match PlainConfig::from_sources(page.alloc, "/work", &(), sources, features) {
+            Ok(config) => some!(settings_told(page, &ok!(config.clone()), name, settings)),
+            Err(LoadError::Refused(fault)) => refusal_told(page, &ok!(fault.clone())),
+            Err(LoadError::OutOfMemory) => continue,
         }
-        Err(LoadError::OutOfMemory) => None,
+        page.show(turn);
+        return Some(());
     }
+    None
+}
+
+// The path of a file that is named, `-` where none is, and the same as of `loads`, in the workspace
+// `/work`: the settings, and behind them what is warned of; or why the sources are refused.
+pub(crate) fn selections(page: &mut Page, input: &str) -> Option<()> {
+    let (head, sources) = two(input, BAR);
+    let (path, head) = two(head, " ");
+    let path = if path == "-" { None } else { Some(path) };
+    let selection = ok!(ok!(ConfigFileSelection::new(page.alloc, path)).clone());
+    let sources = some!(sources_of(page.alloc, sources));
+    selected(page, &selection, sources.as_slice(), head)
+}
+
+fn selected(
+    page: &mut Page,
+    selection: &ConfigFileSelection,
+    sources: &[ConfigSource],
+    head: &str,
+) -> Option<()> {
+    let (name, settings, words) = three(head);
+    let paths = ConfigPaths {
+        workspace_root: ok!(Text::from_str(page.alloc, "/work")),
+    };
+    let mut warnings = DefaultConfigWarnings::new(page.alloc);
+    match PlainConfig::from_sources_with_paths(
+        page.alloc,
+        &ok!(paths.clone()),
+        &(),
+        selection,
+        sources,
+        some!(features_of(page.alloc, words, sources)),
+        &mut warnings,
+    ) {
+        Ok(config) => some!(settings_told(page, &config, name, settings)),
+        Err(LoadError::Refused(fault)) => refusal_told(page, &fault),
+        Err(LoadError::OutOfMemory) => return None,
+    }
+    page.show_each("; ", warnings.lines(), "");
+    Some(())
 }
 
 // The features that are known: those of some names, or, by `asked`, those that the sources ask for.
@@ -138,7 +181,10 @@ fn settings_told(page: &mut Page, config: &PlainConfig, name: &str, keys: &str) 
         target: None,
     };
     match config.profile(page.alloc, name) {
-        Ok(early) => each_told(page, config, &early.apply_build_platforms(&platforms), keys),
+        Ok(early) => {
+            let profile = ok!(early.clone()).apply_build_platforms(&platforms);
+            each_told(page, config, &ok!(profile.clone()), keys)
+        }
         Err(ProfileError::NotFound(_)) => {
             page.show("no such profile");
             Some(())
@@ -174,7 +220,7 @@ pub(crate) fn warnings(page: &mut Page, input: &str) -> Option<()> {
     };
     let mut warnings = DefaultConfigWarnings::new(page.alloc);
     ok!(warn_file(page.alloc, &mut warnings, &source, &file));
-    page.joined("; ", warnings.lines());
+    page.joined("; ", ok!(warnings.clone()).lines());
     page.or_none(0);
     Some(())
 }

@@ -5,15 +5,22 @@ use crate::plain_filter::PlainFilter;
 use crate::plain_spec::PlainSpec;
 use crate::show;
 use nextest_config_resolution::{
-    LoadedScriptRule, NamedScript, ScriptCommand, ScriptId, SetupScriptConfig, WrapperScriptConfig,
+    LoadedScriptRule, NamedScript, ScriptCommand, ScriptConfig, ScriptId, ScriptRuleConfig,
+    SetupScriptConfig, WrapperScriptConfig,
 };
 
 // The setup scripts and then the wrapper scripts, each in brackets; `-` where none is defined.
 pub(crate) fn scripts_told(page: &mut Page, config: &PlainConfig) {
-    let (scripts, start) = (config.scripts(), page.len());
-    page.tell_each(start, " ", scripts.setup.as_slice());
-    page.tell_each(start, " ", scripts.wrapper.as_slice());
-    page.or_none(start);
+    page.tell_copy(config.scripts());
+}
+
+impl Tell for ScriptConfig {
+    fn tell(&self, page: &mut Page) {
+        let start = page.len();
+        page.tell_each(start, " ", self.setup.as_slice());
+        page.tell_each(start, " ", self.wrapper.as_slice());
+        page.or_none(start);
+    }
 }
 
 // The script rules, the highest file first, each in brackets; `-` where there is none.
@@ -61,11 +68,17 @@ fn command_told(page: &mut Page, command: &ScriptCommand) {
 // Where a rule is written, and the scripts that it names.
 impl Tell for LoadedScriptRule<PlainFilter, PlainSpec> {
     fn tell(&self, page: &mut Page) {
-        let (id, config) = (&self.placed.id, &self.placed.config);
-        show!(page; "[", id, ": setup ");
-        page.joined(",", config.setup.as_slice());
-        show!(page; ", list ", wrapper_named(config.list_wrapper.as_ref()));
-        show!(page; ", run ", wrapper_named(config.run_wrapper.as_ref()), "]");
+        show!(page; "[", &self.placed.id, ": setup ");
+        page.tell_copy(&self.placed.config);
+        page.show("]");
+    }
+}
+
+impl Tell for ScriptRuleConfig {
+    fn tell(&self, page: &mut Page) {
+        page.joined(",", self.setup.as_slice());
+        show!(page; ", list ", wrapper_named(self.list_wrapper.as_ref()));
+        show!(page; ", run ", wrapper_named(self.run_wrapper.as_ref()));
     }
 }
 

@@ -104,11 +104,12 @@ fn json_form(page: &mut Page, kind: &str, value: &Value) -> Option<()> {
     }
 }
 
-fn read_back<T: JsonForm + Debug>(page: &mut Page, value: &Value) -> Option<()> {
+fn read_back<T: JsonForm + Clone + Debug>(page: &mut Page, value: &Value) -> Option<()> {
     match T::from_json(page.alloc, value) {
         Ok(form) => {
             some!(written(page, &form));
-            show!(page; " for ", Whole(form));
+            page.show(" for ");
+            page.debug_copy(&form);
         }
         Err(error) => page.show(error),
     }

@@ -57,7 +57,8 @@ fn text_of<R: Files + AllocGlobal>(rt: &R, case: &str, ending: &str) -> io::Resu
     fs::read_to_string(rt, file.as_str())
 }
 
+// A copy of what a text is read as.
 fn shown(alloc: Global, text: &str) -> Option<String> {
-    let inputs = ok!(Inputs::from_json(alloc, text.as_bytes()));
+    let inputs = ok!(ok!(Inputs::from_json(alloc, text.as_bytes())).clone());
     format!(in alloc; "{inputs:#?}\n").ok()
 }

@@ -16,7 +16,7 @@ pub(crate) fn log_lines(page: &mut Page, line: &str) -> Option<()> {
 }
 
 fn told(page: &mut Page, event: &LogLine, line: &str) -> Option<()> {
-    page.debug(event);
+    page.debug_copy(event);
     if !event.has_spelling() {
         page.show(" without a spelling");
         return Some(());

@@ -12,6 +12,7 @@
 mod answering;
 mod asking;
 mod attempts;
+mod calls_again;
 mod changes;
 mod commands;
 mod compiled;
@@ -19,6 +20,7 @@ mod configs;
 mod defined;
 mod elements;
 mod ends;
+mod events;
 mod filter_texts;
 mod filter_trees;
 mod inputs;

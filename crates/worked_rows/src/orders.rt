@@ -7,6 +7,9 @@ use crate::{ok, show, some};
 use nextest_config_elements::{
     FinalStatusLevel, FlakyResult, InvalidIdentifier, StatusLevel, ToolName,
 };
+use nextest_config_resolution::{
+    ConfigWarning, InheritanceFault, ScriptId, ScriptInfo, ScriptType,
+};
 use nextest_filtering::{GlobConstructError, ParseError, PatternError};
 use nextest_run_events::{
     CancelReason, ExecutionResultDescription, JsonError, OwnedTestInstanceId, RunFailureStep,
@@ -15,6 +18,8 @@ use nextest_run_events::{
 use nextest_text::{Listing, Text};
 use std::alloc::Global;
 use std::time::Duration;
+use test_runner_core_inputs::{InputsError, InputsRefusal};
+use test_runner_core_workspace::ListFault;
 
 // A kind of values, and two of them: how the first compares to the second, how the second to the
 // first, and whether they are equal.
@@ -68,7 +73,7 @@ impl Word for OwnedTestInstanceId {
             binary_id,
             test_name,
         };
-        id.to_owned(alloc).ok()
+        ok!(id.to_owned(alloc)).clone().ok()
     }
 }
 
@@ -85,7 +90,8 @@ impl Word for RunFailureStep {
 // A text: how it prints, how it fills seven places, how it prints in quotes, and its bytes.
 pub(crate) fn shown_texts(page: &mut Page, input: &str) -> Option<()> {
     let text = ok!(Text::from_str(page.alloc, input));
-    page.show(format_args!("{text}|{text:>7}|{text:?}|{}", text.len()));
+    page.show(format_args!("{text}|{text:>7}|{text:?}|"));
+    page.show(ok!(text.into_string(page.alloc)).len());
     Some(())
 }
 
@@ -113,7 +119,8 @@ pub(crate) fn words(page: &mut Page, input: &str) -> Option<()> {
 fn endings(page: &mut Page, input: &str) -> Option<()> {
     match input {
         "output of an attempt that runs, and of one that is waited for" => {
-            show!(page; running().has_valid_output(), " ", delayed().has_valid_output());
+            let (running, delayed) = (ok!(running().clone()), ok!(delayed().clone()));
+            show!(page; running.has_valid_output(), " ", delayed.has_valid_output());
         }
         "reasons of an end" => show!(
             page;
@@ -129,6 +136,29 @@ fn endings(page: &mut Page, input: &str) -> Option<()> {
             UnitTerminateSignal::Quit, " ",
             UnitTerminateSignal::Kill
         ),
+        _ => return copies(page, input),
+    }
+    Some(())
+}
+
+// Copies of what nothing else copies.
+fn copies(page: &mut Page, input: &str) -> Option<()> {
+    let text = ok!(Text::from_str(page.alloc, "x"));
+    match input {
+        "a copy of a cycle of profiles" => {
+            page.debug_copy(&InheritanceFault::Cycle { profile: text });
+        }
+        "a copy of a warning" => {
+            page.debug_copy(&ConfigWarning::UnknownReservedProfile { profile: text });
+        }
+        "a copy of why inputs are refused" => {
+            page.debug_copy(&InputsError::Refused(InputsRefusal::Field(text)));
+        }
+        "a copy of why tests can't be listed" => page.debug_copy(&ListFault::Cause(text)),
+        "a copy of a script's name and kind" => page.debug_copy(&ScriptInfo {
+            id: ok!(ScriptId::new(page.alloc, text.as_str())),
+            script_type: ScriptType::Wrapper,
+        }),
         _ => return None,
     }
     Some(())

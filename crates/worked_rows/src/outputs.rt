@@ -55,13 +55,15 @@ pub(crate) fn errors(page: &mut Page, input: &str) -> Option<()> {
 }
 
 fn start_error_told(page: &mut Page, error: &ChildStartError) -> Option<()> {
-    let told = ok!(ChildStartErrorDescription::from_error(page.alloc, error));
+    let error = ok!(error.clone());
+    let told = ok!(ok!(ChildStartErrorDescription::from_error(page.alloc, &error)).clone());
     show!(page; &told, ": ", told.source());
     Some(())
 }
 
 fn child_error_told(page: &mut Page, error: &ChildError) -> Option<()> {
-    let told = ok!(ChildErrorDescription::from_error(page.alloc, error));
+    let error = ok!(error.clone());
+    let told = ok!(ok!(ChildErrorDescription::from_error(page.alloc, &error)).clone());
     show!(page; &told, ": ", told.source());
     Some(())
 }
@@ -70,18 +72,18 @@ fn child_error_told(page: &mut Page, error: &ChildError) -> Option<()> {
 // nearest to the error itself.
 pub(crate) fn causes(page: &mut Page, input: &str) -> Option<()> {
     let chain = some!(chain_of(page.alloc, input));
-    let kept = ok!(SerializableError::new(page.alloc, &chain));
-    causes_told(page, &kept);
-    Some(())
+    let kept = ok!(SerializableError::new(page.alloc, &ok!(chain.clone())));
+    causes_told(page, &ok!(kept.clone()))
 }
 
-fn causes_told(page: &mut Page, kept: &SerializableError) {
+fn causes_told(page: &mut Page, kept: &SerializableError) -> Option<()> {
     show!(page; kept, " has ", kept.causes().len());
     for source in kept.sources() {
         let nearest = source.source().map(|it| it.message());
-        show!(page; "; ", &source, " ", Whole(nearest));
+        show!(page; "; ", ok!(source.clone()), " ", Whole(nearest));
     }
     show!(page; "; ", Whole(kept.source().map(|it| it.message())));
+    Some(())
 }
 
 // Some bytes of a stream.
@@ -108,9 +110,10 @@ fn left(
 
 // An error's kind and what it came from: what a process left that had it, as it is described.
 pub(crate) fn described(page: &mut Page, input: &str) -> Option<()> {
-    let output = some!(left_by_error(page.alloc, input));
+    let output = ok!(some!(left_by_error(page.alloc, input)).clone());
     let told = ok!(ChildExecutionOutputDescription::<LiveSpec>::from_output(page.alloc, output));
-    show!(page; "errors ", told.has_errors(), ", ", Whole(&told));
+    show!(page; "errors ", told.has_errors(), ", ");
+    page.debug_copy(&told);
     Some(())
 }
 
@@ -170,7 +173,7 @@ pub(crate) fn stream_lengths(page: &mut Page, input: &str) -> Option<()> {
 
 // What is left by a test that was ended with handles left open, whose standard output wasn't read
 // and whose error is no UTF-8.
-fn left_by_test(alloc: Global) -> Option<ChildExecutionOutputDescription<LiveSpec>>
+pub(crate) fn left_by_test(alloc: Global) -> Option<ChildExecutionOutputDescription<LiveSpec>>
     ensures { IfSome result (λ output. IsLoaded output) }
 {
     let result = ExecutionResultDescription::Fail {
@@ -227,8 +230,9 @@ fn all_told(
     requires { IsLoaded output.now }
 {
     let list = some!(UnitErrorDescription::new(kind, output).all_error_list());
+    let list = ok!(list.clone());
     show!(page; list.description, " (", list.items.len(), ")");
-    for error in list.items {
+    for error in ok!(list.items.clone()) {
         show!(page; "; ", error);
     }
     Some(())

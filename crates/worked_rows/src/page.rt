@@ -88,6 +88,34 @@ impl Page {
         self.show(Whole(part));
     }
 
+    /// A copy of a value. Where there is no memory for it, the page is no answer.
+    pub(crate) fn copy<T: Clone>(&mut self, value: &T) -> Option<T> {
+        let copy = value.clone().ok();
+        self.is_torn |= copy.is_none();
+        copy
+    }
+
+    /// Writes a copy of a value with all that it holds.
+    pub(crate) fn debug_copy<T: Clone + Debug + Drop>(&mut self, value: &T) {
+        if let Some(copy) = self.copy(value) {
+            self.debug(copy);
+        }
+    }
+
+    /// Writes a copy of a value as it prints.
+    pub(crate) fn show_copy<T: Clone + Display + Drop>(&mut self, value: &T) {
+        if let Some(copy) = self.copy(value) {
+            self.show(copy);
+        }
+    }
+
+    /// Writes a copy of a value in its own words.
+    pub(crate) fn tell_copy<T: Clone + Tell + Drop>(&mut self, value: &T) {
+        if let Some(copy) = self.copy(value) {
+            copy.tell(self);
+        }
+    }
+
     /// Writes what stands between two parts, unless nothing was written since the answer was so
     /// long.
     pub(crate) fn separate(&mut self, start: usize, between: &str) {
@@ -127,27 +155,39 @@ impl Page {
         }
     }
 
-    /// Writes what was read as it prints, or why nothing was.
-    pub(crate) fn shown<T: Display + Drop, E: Display + Drop>(&mut self, read: Result<T, E>) {
+    /// Writes a copy of what was read as it prints, or why nothing was.
+    pub(crate) fn shown<T, E>(&mut self, read: Result<T, E>)
+    where
+        T: Clone + Display + Drop,
+        E: Display + Drop,
+    {
         match read {
-            Ok(value) => self.show(value),
+            Ok(value) => self.show_copy(&value),
             Err(refusal) => self.show(refusal),
         }
     }
 
-    /// Writes what was read with all that it holds, or why nothing was.
-    pub(crate) fn debugged<T: Debug + Drop, E: Display + Drop>(&mut self, read: Result<T, E>) {
+    /// Writes a copy of what was read with all that it holds, or why nothing was.
+    pub(crate) fn debugged<T, E>(&mut self, read: Result<T, E>)
+    where
+        T: Clone + Debug + Drop,
+        E: Display + Drop,
+    {
         match read {
-            Ok(value) => self.debug(value),
+            Ok(value) => self.debug_copy(&value),
             Err(refusal) => self.show(refusal),
         }
     }
 
-    /// Writes what was read in its own words, or why nothing was.
-    pub(crate) fn told<T: Tell + Drop, E: Display + Drop>(&mut self, read: Result<T, E>) {
+    /// Writes a copy of what was read in its own words, or why nothing was, as that is copied.
+    pub(crate) fn told<T, E>(&mut self, read: Result<T, E>)
+    where
+        T: Clone + Tell + Drop,
+        E: Clone + Display + Drop,
+    {
         match read {
-            Ok(value) => value.tell(self),
-            Err(refusal) => self.show(refusal),
+            Ok(value) => self.tell_copy(&value),
+            Err(refusal) => self.show_copy(&refusal),
         }
     }
 

@@ -1,14 +1,18 @@
 // Inputs, and their plan.
+use crate::calls_again::{CHANGED, TURNS};
 use crate::changes::changed;
 use crate::defined::run_told;
-use crate::page::{Page, Whole};
+use crate::page::{Page, Tell, Whole};
 use crate::table::{Table, rows_hold};
 use crate::{ok, show, some};
 use anyhow::Result;
+use nextest_run_events::TestInstanceId;
 use std::rt::Files;
 use test_runner_core_inputs::Inputs;
-use test_runner_core_plan::{Plan, PlanTest};
+use test_runner_core_plan::{Plan, PlanSettings, PlanTest};
 use test_runner_core_planning::{BuildPlan, PlanError};
+use test_runner_core_run_model::Mark;
+use test_runner_core_session::Session;
 use test_runner_core_workspace::TableLister;
 
 // Whether each row of the tables of plans has the plan that is made of its inputs; of two of them a
@@ -69,10 +73,10 @@ fn planned(page: &mut Page, text: &str, has_settings: bool) -> Option<()> {
 }
 
 fn plan_of(page: &mut Page, inputs: &Inputs, has_settings: bool) -> Option<()> {
-    let mut lister = ok!(TableLister::new(page.alloc, &inputs.workspace));
+    let mut lister = ok!(ok!(TableLister::new(page.alloc, &inputs.workspace)).clone());
     match Plan::build(page.alloc, inputs, &mut lister) {
-        Ok(plan) => plan_told(page, &plan, has_settings),
-        Err(PlanError::Refused(fault)) => page.show(fault.name()),
+        Ok(plan) => plan_told(page, &ok!(plan.clone()), has_settings),
+        Err(PlanError::Refused(fault)) => page.show(ok!(fault.clone()).name()),
         Err(PlanError::OutOfMemory) => page.show("no memory"),
     }
     if !has_settings {
@@ -98,23 +102,30 @@ fn plan_told(page: &mut Page, plan: &Plan, has_settings: bool) {
     }
 }
 
-// A test, and perhaps its settings, with its wrapper script where it has one.
+// A test, and perhaps its settings.
 fn test_told(page: &mut Page, test: &PlanTest, has_settings: bool) {
-    let (instance, settings) = (&test.instance, &test.settings);
+    let instance = &test.instance;
     show!(page; " [", &instance.binary_id, " ", &instance.test_name, " x", test.tries);
     if has_settings {
+        page.tell_copy::<PlanSettings>(&test.settings);
+    }
+    page.show("]");
+}
+
+// Some settings of a test, with its wrapper script where it has one.
+impl Tell for PlanSettings {
+    fn tell(&self, page: &mut Page) {
         show!(
             page;
-            " ", Whole(&settings.flaky_result),
-            " ", Whole(&settings.success_output),
-            " ", Whole(&settings.failure_output)
+            " ", Whole(&self.flaky_result),
+            " ", Whole(&self.success_output),
+            " ", Whole(&self.failure_output)
         );
-        if let Some(wrapper) = settings.run_wrapper.as_ref() {
+        if let Some(wrapper) = self.run_wrapper.as_ref() {
             page.show(" wrapper ");
             run_told(page, wrapper);
         }
     }
-    page.show("]");
 }
 
 fn settings_told(page: &mut Page, plan: &Plan) {
@@ -131,4 +142,30 @@ fn selection_told(page: &mut Page, plan: &Plan) {
     }
     show!(page; "; limit ", Whole(plan.limit), "; listed");
     page.show_each(" ", plan.listed.as_slice(), "");
+}
+
+// Inputs: how far the first test of their plan is, once it started.
+pub(crate) fn start(page: &mut Page, text: &str) -> Option<()> {
+    let inputs = ok!(Inputs::from_json(page.alloc, text.as_bytes()));
+    let mut lister = ok!(TableLister::new(page.alloc, &inputs.workspace));
+    let plan = ok!(Plan::build(page.alloc, &inputs, &mut lister));
+    started(page, &plan, some!(plan.tests.as_slice().first()))
+}
+
+fn started(page: &mut Page, plan: &Plan, test: &PlanTest) -> Option<()> {
+    let mut run = ok!(ok!(Session::new(page.alloc, plan)).clone());
+    let id = TestInstanceId {
+        binary_id: test.instance.binary_id.as_str(),
+        test_name: test.instance.test_name.as_str(),
+    };
+    for turn in TURNS {
+        if run.start(id).is_ok() {
+            show!(page; Whole(some!(run.fate(id)).mark), turn);
+            return Some(());
+        }
+        if some!(run.fate(id)).mark != Mark::Waiting {
+            page.show(CHANGED);
+        }
+    }
+    None
 }

@@ -17,7 +17,7 @@ pub(crate) fn platform_specs(page: &mut Page, input: &str) -> Option<()> {
     let facts = some!(list_of::<Fact>(page.alloc, known, ","));
     let triple = ok!(Text::from_str(page.alloc, triple));
     match PlatformFacts::new(page.alloc, triple, Listing::from(facts)) {
-        Ok(facts) => told(page, spec, &facts),
+        Ok(facts) => return told(page, spec, &ok!(facts.clone())),
         Err(PlatformFactsError::RepeatedFact) => page.show("repeated"),
         Err(PlatformFactsError::OutOfMemory) => return None,
     }
@@ -25,12 +25,13 @@ pub(crate) fn platform_specs(page: &mut Page, input: &str) -> Option<()> {
 }
 
 // Whether a spec holds on a platform of which this is known.
-fn told(page: &mut Page, spec: &str, facts: &PlatformFacts) {
+fn told(page: &mut Page, spec: &str, facts: &PlatformFacts) -> Option<()> {
     match PlatformSpec::parse(page.alloc, spec) {
-        Ok(spec) => page.debug(spec.eval(facts)),
+        Ok(spec) => page.debug(ok!(spec.clone()).eval(facts)),
         Err(PlatformSpecError::BadSpec { .. }) => page.show("refused"),
-        Err(PlatformSpecError::OutOfMemory) => page.show("no memory"),
+        Err(PlatformSpecError::OutOfMemory) => return None,
     }
+    Some(())
 }
 
 // A fact: `NAME:HOLDS`, or `NAME=VALUE:HOLDS`.

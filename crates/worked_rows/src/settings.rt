@@ -3,7 +3,7 @@ use crate::configs::{PlainConfig, PlainProfile};
 use crate::defined::{rules_told, scripts_told};
 use crate::page::{Page, Whole};
 use crate::plain_filter::PlainFilter;
-use crate::show;
+use crate::{ok, show};
 use nextest_config_elements::{JunitConfig, NextestRunMode};
 use nextest_config_resolution::ProfileError;
 
@@ -75,7 +75,7 @@ fn names_told(page: &mut Page, config: &PlainConfig) -> Option<()> {
     let Err(ProfileError::NotFound(told)) = config.profile(page.alloc, "\0") else {
         return None;
     };
-    page.show_each("[", told.known.as_slice(), "]");
+    page.show_each("[", ok!(told.clone()).known.as_slice(), "]");
     Some(())
 }
 

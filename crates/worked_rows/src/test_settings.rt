@@ -1,4 +1,5 @@
 // What a test is run with, and where each of its settings comes from; and its scripts.
+use crate::calls_again::TURNS;
 use crate::configs::{BAR, PlainConfig, PlainProfile, sources_of};
 use crate::defined::run_told;
 use crate::page::{Page, Tell, Whole};
@@ -9,7 +10,7 @@ use nextest_config_elements::{FeatureSet, NextestRunMode};
 use nextest_config_resolution::{
     BuildPlatforms, EnabledScript, SettingSource, TestGroupRef, TestSettings, WrapperScriptConfig,
 };
-use nextest_filtering::{BinaryQuery, BuildPlatform, TestQuery};
+use nextest_filtering::{BinaryQuery, BuildPlatform, GroupLookup, NameMatcher, TestQuery};
 use nextest_text::{Listing, Text};
 use std::alloc::Global;
 use std::fmt::Debug;
@@ -98,7 +99,10 @@ fn of_profile(
     query: &TestQuery<'_>,
     keys: &str,
 ) -> Option<()> {
-    let Ok(settings) = profile.settings_with_source_for(page.alloc, mode, query) else {
+    let Ok(found) = profile.settings_with_source_for(page.alloc, mode, query) else {
+        return None;
+    };
+    let Ok(settings) = found.clone() else {
         return None;
     };
     for key in keys.split(',') {
@@ -120,13 +124,55 @@ fn setting_told(
         "default-filter" => default_told(page, profile),
         "list-wrapper" => list_wrapper(page, profile, &query.binary_query),
         "setup-scripts" => setup_scripts(page, profile, query),
-        _ => how_it_runs(page, settings, key),
+        "without sources" => without_sources(page, profile, query),
+        _ => match key.strip_prefix("in group ") {
+            Some(name) => is_in_group(page, profile, query, name),
+            None => how_it_runs(page, settings, key),
+        },
     }
+}
+
+// A test's priority, retries and weight, which don't tell where they come from.
+fn without_sources(
+    page: &mut Page,
+    profile: &PlainProfile<'_>,
+    query: &TestQuery<'_>,
+) -> Option<()> {
+    for turn in TURNS {
+        if let Ok(settings) = profile.settings_for(page.alloc, NextestRunMode::Test, query) {
+            show!(page; Whole(settings.priority()), ", ", Whole(settings.retries()));
+            show!(page; ", ", Whole(settings.fail_weight()), turn);
+            return Some(());
+        }
+    }
+    None
+}
+
+// Whether a test is in the group of a name, by the memberships that are found for it alone.
+fn is_in_group(
+    page: &mut Page,
+    profile: &PlainProfile<'_>,
+    query: &TestQuery<'_>,
+    name: &str,
+) -> Option<()> {
+    let (tests, value) = ([*query], ok!(Text::from_str(page.alloc, name)));
+    let matcher = NameMatcher::Equal {
+        value,
+        implicit: false,
+    };
+    for turn in TURNS {
+        if let Ok(groups) = profile.precompute_group_memberships(page.alloc, &tests) {
+            let groups = ok!(groups.clone());
+            show!(page; ok!(groups.is_member_test(query, &matcher)), turn);
+            return Some(());
+        }
+    }
+    None
 }
 
 // The default filter, and the key that sets it.
 fn default_told(page: &mut Page, profile: &PlainProfile<'_>) -> Option<()> {
-    let found = profile.default_filter();
+    let found = ok!(profile.default_filter().clone());
     let place = ok!(found.display_config(page.alloc));
     show!(page; filter_text(found.filter), " from ", place);
     Some(())
@@ -138,7 +184,7 @@ fn list_wrapper(
     profile: &PlainProfile<'_>,
     binary: &BinaryQuery<'_>,
 ) -> Option<()> {
-    let settings = ok!(profile.list_settings_for(page.alloc, binary));
+    let settings = ok!(ok!(profile.list_settings_for(page.alloc, binary)).clone());
     wrapper_told(page, settings.list_wrapper());
     Some(())
 }
@@ -154,7 +200,7 @@ fn wrapper_told(page: &mut Page, found: Option<&WrapperScriptConfig>) {
 // there is none.
 fn setup_scripts(page: &mut Page, profile: &PlainProfile<'_>, query: &TestQuery<'_>) -> Option<()> {
     let (matching, start) = ([*query], page.len());
-    let scripts = ok!(profile.setup_scripts(page.alloc, &matching));
+    let scripts = ok!(ok!(profile.setup_scripts(page.alloc, &matching)).clone());
     page.tell_each(start, ",", scripts.as_slice());
     page.or_none(start);
     Some(())

@@ -3,13 +3,14 @@ use crate::page::Page;
 use crate::parts::two;
 use crate::{ok, some};
 use nextest_config_elements::{
-    Any, ConfigValue, deserialize_config_identifier, deserialize_fail_fast,
-    deserialize_fail_weight, deserialize_final_status_level, deserialize_flaky_result,
-    deserialize_global_timeout, deserialize_junit_flaky_fail_status, deserialize_leak_timeout,
-    deserialize_report_skip_policy, deserialize_retry_policy, deserialize_slow_timeout,
-    deserialize_status_level, deserialize_test_group, deserialize_test_group_config,
-    deserialize_test_output_display, deserialize_test_priority, deserialize_test_threads,
-    deserialize_threads_required, deserialize_tool_name,
+    Any, ConfigValue, deserialize_config_identifier, deserialize_custom_test_group,
+    deserialize_fail_fast, deserialize_fail_weight, deserialize_final_status_level,
+    deserialize_flaky_result, deserialize_global_timeout, deserialize_junit_flaky_fail_status,
+    deserialize_leak_timeout, deserialize_leak_timeout_result, deserialize_report_skip_policy,
+    deserialize_retry_policy, deserialize_slow_timeout, deserialize_slow_timeout_result,
+    deserialize_status_level, deserialize_terminate_mode, deserialize_test_group,
+    deserialize_test_group_config, deserialize_test_output_display, deserialize_test_priority,
+    deserialize_test_threads, deserialize_threads_required, deserialize_tool_name,
 };
 use std::alloc::Global;
 use toml::{Table, Value};
@@ -63,6 +64,7 @@ fn name_read(page: &mut Page, kind: &str, value: &Value, path: &[&str]) -> Optio
         "tool-name" => page.debugged(deserialize_tool_name(alloc, value, path)),
         "config-identifier" => page.debugged(deserialize_config_identifier(alloc, value, path)),
         "test-group" => page.debugged(deserialize_test_group(alloc, value, path)),
+        "custom-test-group" => page.debugged(deserialize_custom_test_group(alloc, value, path)),
         _ => return word_read(page, kind, value, path),
     }
     Some(())
@@ -80,6 +82,18 @@ fn word_read(page: &mut Page, kind: &str, value: &Value, path: &[&str]) -> Optio
         "flaky-fail-status" => {
             page.debugged(deserialize_junit_flaky_fail_status(alloc, value, path));
         }
+        _ => return mode_read(page, kind, value, path),
+    }
+    Some(())
+}
+
+// A value of a kind that is how a run ends, or what becomes of a process.
+fn mode_read(page: &mut Page, kind: &str, value: &Value, path: &[&str]) -> Option<()> {
+    let alloc = page.alloc;
+    match kind {
+        "terminate-mode" => page.debugged(deserialize_terminate_mode(alloc, value, path)),
+        "slow-result" => page.debugged(deserialize_slow_timeout_result(alloc, value, path)),
+        "leak-result" => page.debugged(deserialize_leak_timeout_result(alloc, value, path)),
         _ => return None,
     }
     Some(())

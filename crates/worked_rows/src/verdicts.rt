@@ -1,12 +1,15 @@
 // What lists of sources ask for, and what a version is by them.
+use crate::calls_again::{CHANGED, TURNS};
 use crate::configs::{BAR, kind_of};
 use crate::page::Page;
-use crate::parts::{three, two};
+use crate::parts::{Word, three, two};
 use crate::{ok, show, some};
 use nextest_config_elements::{
-    ConfigExperimental, ConfigSourceKind, ExperimentalConfig, NextestVersionEval, PlainVersion,
-    VersionOnlyConfig, VersionSource,
+    AskedVersions, ConfigExperimental, ConfigSourceKind, ExperimentalConfig, NextestVersionConfig,
+    NextestVersionEval, NextestVersionReq, PlainVersion, VersionOnlyConfig, VersionOnlyError,
+    VersionOrigin, VersionSource,
 };
+use nextest_text::Text;
 use std::alloc::Global;
 
 // Where sources come from.
@@ -22,18 +25,28 @@ struct Kinds {
 // the features that are known, and those that aren't; or why the first source is refused that is.
 pub(crate) fn verdicts(page: &mut Page, input: &str) -> Option<()> {
     let (head, sources) = two(input, BAR);
-    let kinds = Kinds {
-        tool: some!(kind_of(page.alloc, "tool")),
-        explicit: ConfigSourceKind::ExplicitRepository,
-        discovered: ConfigSourceKind::DiscoveredRepository,
-    };
+    let kinds = some!(Kinds::of_word(page.alloc, "tool"));
     let lent = some!(lent_by(page.alloc, &kinds, sources));
-    match VersionOnlyConfig::from_sources(page.alloc, lent.as_slice()) {
-        Ok(config) => demands_told(page, &config, head),
-        Err(refusal) => {
-            page.show(refusal);
-            Some(())
+    for turn in TURNS {
+        match VersionOnlyConfig::from_sources(page.alloc, lent.as_slice()) {
+            Ok(config) => some!(demands_told(page, &ok!(config.clone()), head)),
+            Err(VersionOnlyError::Refused(fault)) => page.show(fault),
+            Err(VersionOnlyError::OutOfMemory) => continue,
         }
+        page.show(turn);
+        return Some(());
+    }
+    None
+}
+
+// Those of all kinds, of which a tool's is of this word.
+impl Word for Kinds {
+    fn of_word(alloc: Global, word: &str) -> Option<Kinds> {
+        Some(Kinds {
+            tool: some!(kind_of(alloc, word)),
+            explicit: ConfigSourceKind::ExplicitRepository,
+            discovered: ConfigSourceKind::DiscoveredRepository,
+        })
     }
 }
 
@@ -111,4 +124,63 @@ fn features_told(page: &mut Page, features: &ExperimentalConfig) {
     for source in features.source_errors() {
         page.show_each(" ", source.names.as_slice(), "");
     }
+}
+
+// What these sources ask for.
+fn config_of(alloc: Global, sources: &str) -> Option<VersionOnlyConfig> {
+    let kinds = some!(Kinds::of_word(alloc, "tool"));
+    let lent = some!(lent_by(alloc, &kinds, sources));
+    VersionOnlyConfig::from_sources(alloc, lent.as_slice()).ok()
+}
+
+// A current version and one that a source `high` requires, and then the sources that it is put
+// behind: the verdict.
+pub(crate) fn accumulate(page: &mut Page, input: &str) -> Option<()> {
+    let (head, sources) = two(input, BAR);
+    let (current, version) = two(head, " ");
+    let current = ok!(PlainVersion::parse(page.alloc, current));
+    let config = some!(config_of(page.alloc, sources));
+    let (mut versions, kept) = (
+        ok!(config.nextest_version().clone()),
+        config.nextest_version(),
+    );
+    let high = VersionOrigin {
+        kind: ConfigSourceKind::ExplicitRepository,
+        path: ok!(Text::from_str(page.alloc, "high")),
+    };
+    let asked = AskedVersions {
+        required: Some(ok!(PlainVersion::parse(page.alloc, version))),
+        recommended: None,
+    };
+    for turn in TURNS {
+        if versions.accumulate(ok!(asked.clone()), &high).is_ok() {
+            verdict_told(page, versions.eval(current.version(), false));
+            page.show(turn);
+            return Some(());
+        }
+        if versions != *kept {
+            page.show(CHANGED);
+        }
+    }
+    None
+}
+
+// Sources, and one that is put behind them: the features that they ask for together.
+pub(crate) fn merge(page: &mut Page, input: &str) -> Option<()> {
+    let (sources, source) = some!(input.rsplit_once(BAR));
+    let config = some!(config_of(page.alloc, sources));
+    let more = some!(config_of(page.alloc, source));
+    let (mut features, kept) = (ok!(config.experimental().clone()), config.experimental());
+    for turn in TURNS {
+        let other = ok!(more.experimental().clone());
+        if features.merge(other).is_ok() {
+            features_told(page, &features);
+            page.show(turn);
+            return Some(());
+        }
+        if features != *kept {
+            page.show(CHANGED);
+        }
+    }
+    None
 }

@@ -78,8 +78,9 @@ p64 p64 lib p64 target";
 // A workspace by its name.
 pub(crate) fn workspace(alloc: Global, name: &str) -> Option<ParseContext> {
     let binaries = some!(list_of::<(Text, Text)>(alloc, binary_lines(name), "\n"));
-    let cx = ok!(ParseContext::new(alloc, some!(graph(alloc, name))));
-    Some(cx.with_binaries(binaries))
+    let graph = ok!(some!(graph(alloc, name)).clone());
+    let cx = ok!(ParseContext::new(alloc, graph));
+    cx.with_binaries(binaries).clone().ok()
 }
 
 // The id of a binary, and its name.
