@@ -3,7 +3,6 @@ pub mod Tables
 pub mod Standings
 mod Gathered
 mod Rising
-mod Depths
 mod Ends
 mod Leaves
 mod Merged
@@ -11,3 +10,5 @@ mod Parting
 mod Keyed
 mod Rebuilt
 mod AtPath
+mod Waiting
+mod Answered

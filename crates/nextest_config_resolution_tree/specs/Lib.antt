@@ -6,3 +6,4 @@ pub mod Gathered
 pub mod Runs
 pub mod RunOf
 pub mod Laws
+pub mod Waiting

@@ -5,8 +5,7 @@ ghost use Rattle.nextest_config_resolution_tree.specs.Ends.{ends_of, rises};
 ghost use Rattle.nextest_config_resolution_tree.specs.Tree.{members_at};
 
 use crate::entry::Entry;
-use crate::merging::push_tables;
-use crate::path::SharedPath;
+use crate::merging::entries_of;
 use crate::run::Run;
 use std::alloc::{AllocError, Global};
 use toml::{Table, Value};
@@ -38,9 +37,9 @@ impl MergedTree {
         ensures { IfOk result
             (λ it. IsListOf (list_of it) (merged_tables (map table_view files.items))) }
     {
-        let mut entries = Vec::new(alloc);
-        push_tables(alloc, &mut entries, SharedPath::root(alloc)?, files)?;
-        Ok(MergedTree { entries })
+        Ok(MergedTree {
+            entries: entries_of(alloc, files)?,
+        })
     }
 
     /// All of it, lent.
