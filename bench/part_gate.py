@@ -34,7 +34,7 @@ def main(names):
     def ci(crate, flags, tests):
         if crate.name in part:
             return prove(crate, flags, tests)
-        return 0 if tests or crate.is_program else crate.build_rlib(flags, anew=False)
+        return 0 if tests or not crate.makes_rlib() else crate.build_rlib(flags, anew=False)
 
     def crates_of(root, _aside):
         rt.rtlib.Crate = rt.Crate

@@ -43,7 +43,7 @@ def take(kept, crate, told):
     below = crate.below()
     for it in below:
         take(kept, it, told)
-    if crate.is_program or not all(told[it.name] for it in below):
+    if not crate.makes_rlib() or not all(told[it.name] for it in below):
         return
     # One that is built stays, since a check that began over it would have to begin again.
     if crate.is_built():

@@ -2,7 +2,9 @@
 //! clauses cite the definitions that the faces hand on.
 #![tactic(auto)]
 
+mod codes;
 mod errors;
+mod exports;
 mod filters;
 mod listers;
 mod logs;
@@ -15,6 +17,10 @@ mod shows;
 mod values;
 
 pub use errors::error_of;
+pub use exports::{
+    faces_tests_configuration, faces_tests_filterset, faces_tests_log, faces_tests_platform_spec,
+    faces_tests_stream,
+};
 pub use filters::{chosen, on_binary, on_test, read_filterset};
 pub use listers::Suite;
 pub use logs::interrupted;

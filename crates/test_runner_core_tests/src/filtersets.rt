@@ -26,10 +26,9 @@ fn a_million_levels_print_as_they_were_written(rt: HostRuntime) -> Result<(), Fa
         ("all() | (", "test(a)", ")"),
     ] {
         let text = nested(alloc, front, middle, end)?;
-        let tree = ParsedExpr::parse(alloc, text.as_str())?;
-        assert!(rt; tree.to_text(alloc)? == text);
-        assert!(rt; tree.clone()?.to_text(alloc)? == text);
-        assert!(rt; tree.runtime_only_leaves(alloc)?.len() == 1);
+        let tree = ParsedExpr::parse(alloc, text.as_str())?.clone()?;
+        let leaves = tree.runtime_only_leaves(alloc)?.len();
+        assert!(rt; leaves == 1 && tree.to_text(alloc)? == text);
     }
     Ok(())
 }

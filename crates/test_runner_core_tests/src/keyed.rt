@@ -1,6 +1,5 @@
 // Hashers that nobody can aim at.
 use std::hash::{BuildHasher, Hasher};
-use std::test::Fail;
 use test_runner_core_plan::TextsDigest;
 
 // What a hasher keyed by these texts says of no bytes.
@@ -13,10 +12,8 @@ fn hash_by(texts: &[&str]) -> u64 {
 }
 
 #[test]
-fn lists_of_texts_with_one_concatenation_hash_differently(rt: HostRuntime) -> Result<(), Fail> {
+fn lists_of_texts_with_one_concatenation_hash_differently(rt: HostRuntime) {
     let one = hash_by(&["ab", "c"]);
-    assert!(rt; one == hash_by(&["ab", "c"]));
-    assert!(rt; one != hash_by(&["a", "bc"]));
-    assert!(rt; one != hash_by(&["abc"]));
-    Ok(())
+    let others = [hash_by(&["a", "bc"]), hash_by(&["abc"])];
+    assert!(rt; one == hash_by(&["ab", "c"]) && !others.contains(&one));
 }

@@ -7,6 +7,8 @@ mod failing_streams;
 #[cfg(test)]
 mod filtersets;
 #[cfg(test)]
+mod judging;
+#[cfg(test)]
 mod keyed;
 #[cfg(test)]
 mod lines;
@@ -15,6 +17,6 @@ mod lister;
 #[cfg(test)]
 mod refusals;
 #[cfg(test)]
-mod three_tests;
+mod runs;
 #[cfg(test)]
 mod walks;

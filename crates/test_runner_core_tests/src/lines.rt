@@ -1,8 +1,9 @@
 // The lines of a log in pieces, and behind reads that fail.
 use std::alloc::Global;
 use std::process::Abort;
-use std::test::Fail;
-use test_runner_core::{LineFault, LogFault, LogLines, MemoryReader, Next};
+use test_runner_core::{
+    LineFault, LineRefusal, LogFault, LogLines, MemoryReader, Next, RefusedLine, first_refused,
+};
 
 // Finds the next line of a log that is far from the end of what is counted.
 fn next_of(
@@ -14,38 +15,47 @@ fn next_of(
     lines.next(reader)
 }
 
-// The lines of a log, a slash behind each, and what ended them. A read that fails is tried again.
-fn told(
-    rt: &impl Abort,
-    alloc: Global,
-    mut reader: MemoryReader,
-) -> Result<(Vec<u8>, Next, u64), Fail> {
+// The lines of a log without their ends; the last one has none.
+const LINES: [&[u8]; 3] = [b"one", b"", b"two"];
+
+// How many lines there are of a log, up to the first that isn't the one that is due, what ended
+// them, and how many reads failed. A read that fails is tried again.
+fn told(rt: &impl Abort, alloc: Global, mut reader: MemoryReader) -> (usize, Next, u64) {
     let mut lines = LogLines::new(alloc);
-    let mut all = Vec::new(alloc);
+    let mut count = 0;
     for _ in 0..100 {
         match next_of(rt, &mut lines, &mut reader) {
-            Ok(Next::Line) => {
-                all.extend_from_slice(lines.line())?;
-                all.push(b'/')?;
+            Ok(Next::Line) if LINES.get(count) == Some(&lines.line()) => {
+                count = count.saturating_add(1);
             }
-            Ok(end) => return Ok((all, end, reader.failures())),
+            Ok(end) => return (count, end, reader.failures()),
             Err(_) => {}
         }
     }
-    Ok((all, Next::Line, reader.failures()))
+    (count, Next::Line, reader.failures())
 }
 
 #[test]
-fn a_read_that_fails_loses_nothing(rt: HostRuntime) -> Result<(), Fail> {
+fn a_read_that_fails_loses_nothing(rt: HostRuntime) {
     // Each byte is a read, and one more finds the end.
     for failing in 0..11 {
         let reader = MemoryReader::new(b"one\n\ntwo\nx", 1).failing_after(failing);
-        let (all, ended, failures) = told(&rt, rt.alloc(), reader)?;
-        assert!(rt;
-            all.as_slice() == b"one//two/".as_slice()
-                && (ended, failures) == (Next::Refused(LineFault::NoLineEnd), 1),
-            "{failing}"
-        );
+        let due = (3, Next::Refused(LineFault::NoLineEnd), 1);
+        assert!(rt; told(&rt, rt.alloc(), reader) == due, "{failing}");
     }
-    Ok(())
+}
+
+#[test]
+fn the_first_refused_line_is_told(rt: HostRuntime) {
+    let third = RefusedLine {
+        line: 3,
+        refusal: LineRefusal::BadLine,
+    };
+    for (log, due) in [
+        (b"start\tp\ta\n\nstart\tp\n".as_slice(), Some(third)),
+        (b"start\tp\ta\n\nstart\tp\tb\n".as_slice(), None),
+    ] {
+        let mut reader = MemoryReader::new(log, 4);
+        assert!(rt; first_refused(rt.alloc(), &mut reader).ok() == Some(due));
+    }
 }

@@ -115,13 +115,8 @@ fn of_logs(alloc: Global) -> Result<String, AllocError> {
 
 #[test]
 fn refusals_print(rt: HostRuntime) -> Result<(), Fail> {
-    let printed = (
-        of_inputs(rt.alloc())?,
-        of_lists(rt.alloc())?,
-        of_logs(rt.alloc())?,
-    );
-    assert_eq!(rt; printed.0.as_str(), OF_INPUTS);
-    assert_eq!(rt; printed.1.as_str(), OF_LISTS);
-    assert_eq!(rt; printed.2.as_str(), OF_LOGS);
+    assert!(rt; of_inputs(rt.alloc())?.as_str() == OF_INPUTS);
+    assert!(rt; of_lists(rt.alloc())?.as_str() == OF_LISTS);
+    assert!(rt; of_logs(rt.alloc())?.as_str() == OF_LOGS);
     Ok(())
 }

@@ -163,10 +163,3 @@ fn a_stopped_run_takes_no_script(rt: HostRuntime) -> Result<(), Fail> {
     assert!(rt; told == due);
     Ok(())
 }
-
-#[test]
-fn a_record_is_cloned_with_its_output(rt: HostRuntime) -> Result<(), Fail> {
-    let record = ended(rt.alloc(), false)?;
-    assert!(rt; record.clone()? == record);
-    Ok(())
-}

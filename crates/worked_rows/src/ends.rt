@@ -55,8 +55,16 @@ pub(crate) fn end_of(words: &str) -> Option<ExecutionResult> {
     }
 }
 
-// The description of an end in these words.
+// The description of an end in these words, or by a job object, which no process here ends by.
 pub(crate) fn described_end(alloc: Global, words: &str) -> Option<ExecutionResultDescription> {
+    if words == "job object" {
+        return Some(ExecutionResultDescription::Fail {
+            failure: FailureDescription::Abort {
+                abort: AbortDescription::WindowsJobObject,
+            },
+            leaked: false,
+        });
+    }
     ExecutionResultDescription::from_result(alloc, some!(end_of(words))).ok()
 }
 

@@ -2,7 +2,7 @@
 ghost use Rattle.std.specs.Prelude.{IfSome};
 ghost use Rattle.nextest_run_events.specs.Collected.{IsLoaded};
 
-use crate::ends::end_of;
+use crate::ends::{described_end, end_of};
 use crate::page::{Page, Whole};
 use crate::parts::{list_of, two};
 use crate::{ok, show, some};
@@ -210,16 +210,58 @@ fn closed(alloc: Global) -> Option<SerializableError> {
     SerializableError::new(alloc, &some!(chain_of(alloc, "closed"))).ok()
 }
 
-// All that went wrong: with such a test, and with a script that wasn't started.
+// All that went wrong: with such a test, with a script that wasn't started, and with a test that
+// ended so and wrote that.
 pub(crate) fn unit_errors(page: &mut Page, input: &str) -> Option<()> {
     if input == "test" {
         return all_told(page, UnitKind::Test, &some!(left_by_test(page.alloc)));
+    }
+    if input != "script" {
+        return slice_told(page, &some!(left_by_end(page.alloc, input)));
     }
     let error = ChildStartErrorDescription::Spawn {
         source: some!(closed(page.alloc)),
     };
     let output = ChildExecutionOutputDescription::StartError(error);
     all_told(page, UnitKind::Script, &output)
+}
+
+// What is left by a test of which all output was captured as one, or both streams: how it ended, and
+// what it wrote, of two streams to standard error.
+fn left_by_end(alloc: Global, input: &str) -> Option<ChildExecutionOutputDescription<LiveSpec>>
+    ensures { IfSome result (λ output. IsLoaded output) }
+{
+    let (streams, words) = two(input, " ");
+    let (end, text) = two(words, ": ");
+    let result = some!(described_end(alloc, end));
+    let output = some!(stream(alloc, text.as_bytes()));
+    Some(ChildExecutionOutputDescription::Output {
+        result: Some(ok!(Boxed::new(alloc, result))),
+        output: match streams {
+            "one" => ChildOutputDescription::Combined { output },
+            _ => ChildOutputDescription::Split {
+                stdout: None,
+                stderr: Some(output),
+            },
+        },
+        errors: None,
+    })
+}
+
+// The part of its output that tells of an error, and how many errors there are.
+fn slice_told(page: &mut Page, output: &ChildExecutionOutputDescription<LiveSpec>) -> Option<()>
+    requires { IsLoaded output.now }
+{
+    let described = UnitErrorDescription::new(UnitKind::Test, output);
+    match described.output_slice() {
+        None => page.show("no slice"),
+        Some(found) => part_told(page, found),
+    }
+    match described.all_error_list() {
+        None => page.show("; no errors"),
+        Some(list) => show!(page; "; ", list.description, " (", list.items.len(), ")"),
+    }
+    Some(())
 }
 
 fn all_told(
