@@ -1,15 +1,18 @@
 #!/usr/bin/env python3
 """Measures the runs of rows/deep_inputs.txt: the bytes of a row's stream, the seconds and the peak of memory of its run, and that a byte.
 
-    python3 bench/deep_inputs.py [--program PATH]
+    python3 bench/deep_inputs.py [--program PATH] [--divided N]
 
 The program is crates/test_runner/out/test_runner, or the one at PATH. Each row is run twice, on a stack of 256 KiB as scripts/whole_runs.py runs
 it, and the least of both is printed, in the order of the rows, as the lines of a table. Seconds are those of the processor, in the program and in
-the system for it. A peak below that of Python itself, some 20 MB, isn't seen.
+the system for it. A peak below that of Python itself, some 20 MB, isn't seen. With `--divided` each count of repetitions in a row is divided,
+so how time and memory grow with the size can be read.
 """
 import argparse
+import dataclasses
 import os
 import pathlib
+import re
 import resource
 import subprocess
 import sys
@@ -42,6 +45,12 @@ class Measured(whole_runs.Program):
             return whole_runs.ended(child, report.read(), b"")
 
 
+def divided(row, by):
+    """A row with each count divided, but odd where it was odd, so that the answer stays."""
+    fewer = re.sub("×([0-9]+)⟫", lambda count: f"×{int(count[1]) // by // 2 * 2 + int(count[1]) % 2}⟫", row.input)
+    return dataclasses.replace(row, input=fewer) if by > 1 else row
+
+
 def shown(row):
     """A row's input, short."""
     return row.input if len(row.input) < 90 else f"{row.input[:87]}..."
@@ -50,9 +59,11 @@ def shown(row):
 def main():
     parser = argparse.ArgumentParser(description="Measures the runs of rows/deep_inputs.txt.")
     parser.add_argument("--program", default=whole_runs.PROGRAM, help="the program that is run")
-    program = Measured(os.path.abspath(parser.parse_args().program))
+    parser.add_argument("--divided", type=int, default=1, help="what each count is divided by")
+    given = parser.parse_args()
+    program = Measured(os.path.abspath(given.program))
     print("| Input | MB | Seconds | Peak, MB | Bytes a byte |\n|---|---|---|---|---|")
-    for row in whole_runs.rows_of("deep_inputs"):
+    for row in [divided(row, given.divided) for row in whole_runs.rows_of("deep_inputs")]:
         took = []
         for _ in range(RUNS):
             if row.differs([program]):
