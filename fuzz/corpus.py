@@ -7,7 +7,7 @@
 
 A file of a fuzzer has the letter of its kind (s, l, c, f, p) and the bytes of the part. In fuzz/corpus each kind has a file of lines
 `PART => STATUS DIGEST`, in the signs of rows/README.md, sorted by their lengths. The answer is what the rules of fuzz/rules.py come to for the
-stream of the part, or `-` where they don't reach: the exit status, and the front of the SHA-256 of the report. No program is run here.
+stream of the part, or `-` where they don't reach: the exit status, and the first digits of the SHA-256 of the report. No program is run here.
 """
 import hashlib
 import json

@@ -6,7 +6,7 @@
 The program is crates/test_runner/out/test_runner, or the one at PATH, and beside it, where it is there, PATH.by-rattle, which Rattle's own
 compiler built. A C compiler `cc` is needed. The samples are those rows of rows/runs that are named, or without names `SAMPLES` and an example
 whose answer scripts/run_rows.py reckons. A run in which no request fails has to come to the sample's answer. Then one request fails in each
-run, the first, the second and so on, until a run meets no failure: each has to come to the same, or to exit 74 with a front of that report and
+run, the first, the second and so on, until a run meets no failure: each has to come to the same, or to exit 74 with a prefix of that report and
 nothing on standard error. Of each sample at least one run exits 74.
 
 Where all is so, it prints a line with the number of runs and of seconds; else each sample that differs, with the request that failed, and the
@@ -196,7 +196,7 @@ class Outcome:
 
 
 def fail_each(failing, program, stream, status, is_silent=True):
-    """Lets each request fail in turn, until so many runs differ as are shown. A run that ends for want of memory has this status, writes a front
+    """Lets each request fail in turn, until so many runs differ as are shown. A run that ends for want of memory has this status, writes a prefix
     of what the whole run does, and, where it is silent, nothing to standard error."""
     run = functools.partial(failing.run, program=program, stream=stream)
     outcome = Outcome(run(0), 0, 0, [])

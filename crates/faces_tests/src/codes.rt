@@ -107,7 +107,7 @@ fn told(alloc: Global, stream: &[u8], piece: usize) -> Result<(u8, MemoryWriter)
 }
 
 // The code of a stream, where pieces of 1 and 7 bytes have the same, and the same report. One that
-// failed has a front of it.
+// failed has a prefix of it.
 fn told_alike(alloc: Global, stream: &[u8]) -> Result<u8, AllocError> {
     let (code, report) = told(alloc, stream, usize::MAX)?;
     for piece in [1, 7] {

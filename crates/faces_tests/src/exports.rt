@@ -17,7 +17,7 @@ pub extern "C" fn faces_tests_stream(alloc: Global, stream: &[u8]) -> u8 {
 }
 
 /// What became of a log behind fixed inputs, which have three tests, a setup script and retries:
-/// as of a stream, and 255 also where the inputs are refused or no test is selected.
+/// as of a stream, and 255 also for 4 and 92, which these inputs can't come to.
 #[unsafe(no_mangle)]
 pub extern "C" fn faces_tests_log(alloc: Global, log: &[u8]) -> u8 {
     match behind_inputs(alloc, log) {

@@ -21,8 +21,8 @@ pub(crate) struct Waiting {
 }
 
 // The ends of tables, each over the next ones. What they have at their keys waits on a list, of
-// which the last is next, so it takes no stack however deep they nest. That ends are found from the
-// last to the first, and turned round in the end. No memory holds as many as there may be turns.
+// which the last is next, so it takes no stack however deep they nest. Ends are found from the last
+// one on, and turned round in the end. No memory holds as many as there may be turns.
 pub(crate) fn entries_of(alloc: Global, tables: Vec<Table>) -> Result<Vec<Entry>, AllocError>
     ensures ends { IfOk result
         (λ it. ends_of 0 it.items ≡ ends (merged_tables (map table_view tables.items))) }

@@ -1,5 +1,5 @@
 // Runs, each of whose reads and writes fails in turn: it is told, nothing is tried again, and the
-// report is a front. Where a read fails, it is what the whole lines tell that were read before.
+// report is a prefix. Where a read fails, it is what the whole lines tell that were read before.
 use super::judging::{End, end_of_log, end_of_stream};
 use super::runs::{LIMIT_ENDS_WHAT_RUNS, PASSES_AT_SECOND_TRY, Run, SCRIPT_TIMES_OUT, THREE_TESTS};
 use std::alloc::{AllocError, Global};
@@ -47,7 +47,7 @@ struct Case {
     // The write after so many fails in this way.
     writes: usize,
     how: WriteFailure,
-    // How it ends, and what is written, a front of the report.
+    // How it ends, and what is written, a prefix of the report.
     end: End,
     told: &'static [u8],
     report: &'static [u8],
