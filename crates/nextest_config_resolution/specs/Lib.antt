@@ -39,13 +39,20 @@ pub use Rattle.nextest_config_resolution_tree.specs.RunOf
 pub use Rattle.nextest_config_resolution_tree.specs.Runs
 pub use Rattle.nextest_config_resolution_tree.specs.Tree
 -- what files and profiles say, and how profiles inherit
-pub use Rattle.nextest_config_resolution_values.specs.Accepted as AcceptedProfiles
-pub use Rattle.nextest_config_resolution_values.specs.File
+pub use Rattle.nextest_config_resolution_keys.specs.Keys
+pub use Rattle.nextest_config_resolution_keys.specs.Rows
+pub use Rattle.nextest_config_resolution_keys.specs.OwnKeys
+pub use Rattle.nextest_config_resolution_keys.specs.RunKeys
+pub use Rattle.nextest_config_resolution_keys.specs.TestKeys
+pub use Rattle.nextest_config_resolution_keys.specs.OutputKeys
+pub use Rattle.nextest_config_resolution_keys.specs.BenchKeys
+pub use Rattle.nextest_config_resolution_keys.specs.JunitKeys
+pub use Rattle.nextest_config_resolution_keys.specs.RuleKeys as KeysOfRules
+pub use Rattle.nextest_config_resolution_keys.specs.Profile
+pub use Rattle.nextest_config_resolution_keys.specs.File
 pub use Rattle.nextest_config_resolution_overrides.specs.Accepted as AcceptedOverrides
 pub use Rattle.nextest_config_resolution_overrides.specs.Groups
 pub use Rattle.nextest_config_resolution_overrides.specs.Overrides
-pub use Rattle.nextest_config_resolution_values.specs.Laws as ValueLaws
-pub use Rattle.nextest_config_resolution_values.specs.Profile
 pub use Rattle.nextest_config_resolution_inheritance.specs.Inheritance
 pub use Rattle.nextest_config_resolution_inheritance.specs.Laws as InheritanceLaws
 pub use Rattle.nextest_config_resolution_inheritance.specs.Refusals as InheritanceRefusals
@@ -170,12 +177,7 @@ pub use Rattle.nextest_config_resolution_settings.specs.declared.test_settings.T
 pub use Rattle.nextest_config_resolution_sources.specs.declared.paths.ConfigPaths
 pub use Rattle.nextest_config_resolution_sources.specs.declared.source.ConfigSource
 pub use Rattle.nextest_config_resolution_sources.specs.declared.source.ConfigSourceOutcome
-pub use Rattle.nextest_config_resolution_values.specs.declared.bench.ProfileBench
-pub use Rattle.nextest_config_resolution_values.specs.declared.profile_config.ProfileConfig
-pub use Rattle.nextest_config_resolution_values.specs.declared.junit.ProfileJunit
-pub use Rattle.nextest_config_resolution_values.specs.declared.settings.ProfileOutput
-pub use Rattle.nextest_config_resolution_values.specs.declared.settings.ProfileRun
-pub use Rattle.nextest_config_resolution_values.specs.declared.settings.ProfileTest
+pub use Rattle.nextest_config_resolution_keys.specs.declared.profile_config.ProfileConfig
 pub use Rattle.nextest_config_resolution_warnings.specs.declared.config_warning.ConfigWarning
 pub use Rattle.nextest_config_resolution_warnings.specs.declared.place.Place
 pub use Rattle.nextest_config_resolution_warnings.specs.declared.shown.Shown

@@ -4,6 +4,7 @@ pub use nextest_config_resolution_commands::laws::{accepted_command, one_split, 
 pub use nextest_config_resolution_inheritance::laws::{
     no_end, no_fault, one_chain, one_fault, one_verdict,
 };
+pub use nextest_config_resolution_keys::laws::{reads_each, refused_for, refused_profile};
 pub use nextest_config_resolution_load::laws::{
     merged_files, one_load, scripts_are_defined, some_load,
 };
@@ -22,5 +23,4 @@ pub use nextest_config_resolution_settings::laws::{
     held_rules, least_rule, one_least, one_setting, same_settings,
 };
 pub use nextest_config_resolution_tree::laws::{merged_by_over, one_standing, read_at_path};
-pub use nextest_config_resolution_values::laws::accepted_profile;
 pub use nextest_config_resolution_warnings::laws::unknown_is_found;

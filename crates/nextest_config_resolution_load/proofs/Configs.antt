@@ -18,7 +18,7 @@ use Rattle.nextest_config_resolution_overrides.specs.Groups.{groups_at}
 use Rattle.nextest_config_resolution_overrides.specs.declared.groups.NamedGroup.{NamedGroup}
 use Rattle.nextest_config_resolution_scripts.specs.Scripts.{scripts_at}
 use Rattle.nextest_config_resolution_scripts.specs.declared.script_config.ScriptConfig.{ScriptConfig}
-use Rattle.nextest_config_resolution_values.specs.File.{Named, profiles_at, store_dir_at}
+use Rattle.nextest_config_resolution_keys.specs.File.{Named, inherits_in, profiles_at, store_dir_at}
 
 pub profiles_refused : (top : Members) (told : ValueError) → GivesSeen (map named_of) (Err told) (profiles_at top) → GivesSeen values_of (Err told) (config_in top)
 profiles_refused top (value_error.Refused bad) e = rw e refl
@@ -46,9 +46,9 @@ pub fault_is : (told : InheritanceError) (fault : InheritanceFault) (parents : P
 fault_is told fault parents e given = subst (λ it. IsRefusedFor it (IsFirstFault parents)) e given
 
 -- the parents of what is read
-pub same_parents : (all : List NamedProfile) → parents_of (map named_of all) ≡ map (λ it. (it.name, it.config.inherits)) all
+pub same_parents : (all : List NamedProfile) → parents_of (map named_of all) ≡ map (λ it. (it.name, inherits_in it.config)) all
 same_parents [] = refl
-same_parents (it ∷ all) = ap (λ more. (it.name, it.config.inherits) ∷ more) (same_parents all)
+same_parents (it ∷ all) = ap (λ more. (it.name, inherits_in it.config) ∷ more) (same_parents all)
 
 pub same_names : (all : List Named) → names (parents_of all) ≡ map (λ it. it.0) all
 same_names [] = refl

@@ -18,9 +18,9 @@ use Rattle.nextest_config_resolution_load.specs.Load.{named_of}
 use Rattle.nextest_config_resolution_load.specs.Reading.{GivesSeen, profile_at}
 use Rattle.nextest_config_resolution_load.specs.declared.loaded_config.NamedProfile.{NamedProfile}
 use Rattle.nextest_config_resolution_tree.specs.Tree.{keys}
-use Rattle.nextest_config_resolution_values.specs.File.{Named, profiles_in}
-use Rattle.nextest_config_resolution_values.specs.Profile.{profile_of}
-use Rattle.nextest_config_resolution_values.specs.declared.profile_config.ProfileConfig.{ProfileConfig}
+use Rattle.nextest_config_resolution_keys.specs.File.{Named, profiles_in}
+use Rattle.nextest_config_resolution_keys.specs.Profile.{profile_of}
+use Rattle.nextest_config_resolution_keys.specs.declared.profile_config.ProfileConfig.{ProfileConfig}
 
 -- profiles behind others
 abbrev pub after : List Named → Reading (List Named) → Reading (List Named)

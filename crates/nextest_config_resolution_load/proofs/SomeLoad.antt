@@ -38,7 +38,7 @@ use Rattle.nextest_config_resolution_sources.specs.Counting.{counting_sources}
 use Rattle.nextest_config_resolution_sources.specs.declared.source.ConfigSource.{ConfigSource}
 use Rattle.nextest_config_resolution_sources.specs.declared.source.ConfigSourceOutcome.{ConfigSourceOutcome}
 use Rattle.nextest_config_resolution_sources.specs.declared.source.ConfigSourceOutcome.TheVariants as outcome
-use Rattle.nextest_config_resolution_values.specs.File.{Named}
+use Rattle.nextest_config_resolution_keys.specs.File.{Named, default_filter_in}
 
 -- ---- a fault for each reason
 
@@ -87,8 +87,8 @@ module _ {F S : Type 0} (Is : IsFilterBy F) (IsSpec : IsSpecBy S) where
   filters_from : (profiles : List Named) → AllByRecursion (IsKept Is IsSpec) (default_checks profiles) → (found : List (Option F)) × AreReadDefaults Is profiles found
   filters_from [] kept = ([], tt)
   filters_from (profile ∷ profiles) kept =
-      let checks = default_check profile.0 profile.1.default_filter in
-      let here = filter_from profile.0 profile.1.default_filter (kept_before Is IsSpec checks (default_checks profiles) kept) in
+      let checks = default_check profile.0 (default_filter_in profile.1) in
+      let here = filter_from profile.0 (default_filter_in profile.1) (kept_before Is IsSpec checks (default_checks profiles) kept) in
       let more = filters_from profiles (kept_behind Is IsSpec checks (default_checks profiles) kept) in
       (here.0 ∷ more.0, (here.1, more.1))
 

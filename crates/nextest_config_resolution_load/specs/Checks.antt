@@ -25,7 +25,7 @@ use Rattle.nextest_config_resolution_scripts.specs.declared.script_config.NamedS
 use Rattle.nextest_config_resolution_scripts.specs.declared.script_config.ScriptConfig.{ScriptConfig}
 use Rattle.nextest_config_resolution_scripts.specs.declared.script_config.ScriptType.TheVariants as script
 use Rattle.nextest_config_resolution_scripts.specs.declared.script_rule.PlacedScriptRule.{PlacedScriptRule}
-use Rattle.nextest_config_resolution_values.specs.File.{Named, profiles_at, store_dir_at}
+use Rattle.nextest_config_resolution_keys.specs.File.{Named, default_filter_in, inherits_in, profiles_at, store_dir_at}
 use Rattle.nextest_config_resolution_load.specs.File.{file_in}
 pub use Rattle.nextest_config_resolution_load.specs.Refusal.{Check, broken, is_filter, is_spec, inheritance, Refusal, unread, no_toml, bad_value, both_script_tables, feature_not_enabled, bad_name, repeated_script, no_constraint, filter_and_default_filter, bad_spec, bad_rule_filter, bad_merged, unknown_group, unknown_script, unknown_wrapper, inherits_badly, bad_filter, must_hold}
 use Rattle.nextest_config_resolution_load.specs.Rules.{group_checks, is_defined, has_script, profile_checks, rules_at, script_checks, script_rules_at}
@@ -207,7 +207,7 @@ config_in top = do
 
 -- the profiles with their parents
 abbrev pub parents_of : List Named → Parents
-parents_of profiles = map (λ profile. (profile.0, profile.1.inherits)) profiles
+parents_of profiles = map (λ profile. (profile.0, inherits_in profile.1)) profiles
 
 -- a default filter that a profile sets is one
 abbrev pub default_check : List ℕ → Option (List ℕ) → List Check
@@ -215,7 +215,7 @@ default_check profile text = option_to_list (option_map (λ it. is_filter purpos
 
 -- of each profile, by name
 abbrev pub default_checks : List Named → List Check
-default_checks profiles = flat_map (λ profile. default_check profile.0 profile.1.default_filter) profiles
+default_checks profiles = flat_map (λ profile. default_check profile.0 (default_filter_in profile.1)) profiles
 
 -- each value can stand at its key; the groups, setup scripts and wrapper scripts that rules name
 -- are defined; profiles inherit as they may; default filters are some

@@ -15,8 +15,8 @@ use Rattle.nextest_config_resolution_overrides.specs.declared.override_config.Ov
 use Rattle.nextest_config_resolution_scripts.specs.Rules.{script_rules_at}
 use Rattle.nextest_config_resolution_scripts.specs.Scripts.{old_scripts_at, scripts_at}
 use Rattle.nextest_config_resolution_scripts.specs.declared.script_rule.ScriptRuleConfig.{ScriptRuleConfig}
-use Rattle.nextest_config_resolution_values.specs.File.{store_dir_at}
-use Rattle.nextest_config_resolution_values.specs.Profile.{profile_in}
+use Rattle.nextest_config_resolution_keys.specs.File.{store_dir_at}
+use Rattle.nextest_config_resolution_keys.specs.Profile.{profile_in}
 
 -- whether each value is one, and else where the first stands that is none
 abbrev pub check_of : {A : Type 0} → Reading A → Reading (Unit {0})

@@ -11,7 +11,7 @@ use Rattle.nextest_config_elements_versions.specs.declared.feature.FeatureSet.{F
 use Rattle.nextest_config_resolution_overrides.specs.declared.placed_override.PlacedOverride.{PlacedOverride}
 use Rattle.nextest_config_resolution_scripts.specs.declared.script_rule.PlacedScriptRule.{PlacedScriptRule}
 use Rattle.nextest_config_resolution_sources.specs.declared.source.ConfigSource.{ConfigSource}
-use Rattle.nextest_config_resolution_values.specs.File.{Named}
+use Rattle.nextest_config_resolution_keys.specs.File.{Named, default_filter_in}
 use Rattle.nextest_config_resolution_load.specs.Checks.{Check, broken, is_filter, is_spec, inheritance, Refusal, unread, no_toml, bad_value, both_script_tables, feature_not_enabled, bad_name, repeated_script, no_constraint, filter_and_default_filter, bad_spec, bad_rule_filter, bad_merged, unknown_group, unknown_script, unknown_wrapper, inherits_badly, bad_filter, MergedConfig, checks_of, config_in, merged_in, rules_downward, script_rules_downward}
 use Rattle.nextest_config_resolution_load.specs.Rules.{Conditions, conditions_of, script_conditions_of}
 use Rattle.nextest_config_resolution_load.specs.declared.languages.FilterPurpose.{FilterPurpose}
@@ -112,7 +112,7 @@ pub record IsLoadedAs {F S : Type 0} (Is : IsFilterBy F) (IsSpec : IsSpecBy S) (
     (sources : List ConfigSource) (it : LoadedConfig F S) : Type 0 where
   pub kept : AllByRecursion (IsKept Is IsSpec) (checks_of features built_in sources)
   pub values : config_in (merged_in built_in sources) ≡ Ok (merged_of it)
-  pub filters : AllZip (λ profile found. IsReadAs (Is purpose.Default) profile.1.default_filter found) (merged_of it).profiles it.default_filters
+  pub filters : AllZip (λ profile found. IsReadAs (Is purpose.Default) (default_filter_in profile.1) found) (merged_of it).profiles it.default_filters
   pub rules : AreReadRules Is IsSpec (rules_downward sources) it.rules
   pub script_rules : AreReadScriptRules Is IsSpec (script_rules_downward sources) it.script_rules
 

@@ -28,9 +28,9 @@ use Rattle.nextest_config_resolution_load.specs.declared.placed_file.SourceRules
 use Rattle.nextest_config_elements_versions.specs.declared.feature.FeatureSet.{FeatureSet}
 use Rattle.nextest_config_resolution_sources.specs.Counting.{counting_sources}
 use Rattle.nextest_config_resolution_sources.specs.declared.source.ConfigSource.{ConfigSource}
-use Rattle.nextest_config_resolution_values.specs.File.{Named}
-use Rattle.nextest_config_resolution_values.specs.Profile.{profile_of}
-use Rattle.nextest_config_resolution_values.specs.declared.profile_config.ProfileConfig.{ProfileConfig}
+use Rattle.nextest_config_resolution_keys.specs.File.{Named, default_filter_in}
+use Rattle.nextest_config_resolution_keys.specs.Profile.{profile_of}
+use Rattle.nextest_config_resolution_keys.specs.declared.profile_config.ProfileConfig.{ProfileConfig}
 
 -- a call gives what reading gives, seen as such; want of memory says nothing
 abbrev pub GivesSeen : {A B : Type 0} → (A → B) → Result A ValueError → Reading B → Type 0
@@ -126,7 +126,7 @@ read_as it = Ok (values_of it)
 
 -- the default filters that profiles set
 abbrev pub AreReadDefaults : {F : Type 0} → IsFilterBy F → List Named → List (Option F) → Type 0
-AreReadDefaults Is profiles found = AllZip (λ profile filter. IsReadAs (Is purpose.Default) profile.1.default_filter filter) profiles found
+AreReadDefaults Is profiles found = AllZip (λ profile filter. IsReadAs (Is purpose.Default) (default_filter_in profile.1) filter) profiles found
 
 -- ---- all of it
 

@@ -1,5 +1,6 @@
 // The default filters of profiles.
 ghost use Rattle.std.specs.Prelude.{map};
+ghost use Rattle.nextest_config_resolution_keys.specs.File.{default_filter_in};
 ghost use Rattle.nextest_config_resolution_load.specs.Checks.{default_check, default_checks};
 ghost use Rattle.nextest_config_resolution_load.specs.Load.{IsReadAs, named_of};
 ghost use Rattle.nextest_config_resolution_load.specs.Reading.{AreReadDefaults};
@@ -10,7 +11,8 @@ use crate::languages::{FilterPurpose, Languages};
 use crate::load_error::LoadError;
 use crate::loaded_config::NamedProfile;
 use crate::refusing::bad_filter;
-use nextest_text::{Listing, Text};
+use nextest_config_resolution_keys::{DefaultFilterKey, OwnKeys, ProfileConfig, get};
+use nextest_text::Listing;
 use std::alloc::Global;
 
 // The default filter of each of some profiles, where it sets one, in their order.
@@ -25,8 +27,7 @@ pub(crate) fn read_defaults<R: Languages>(
 {
     let mut found = Listing::new(alloc);
     for profile in profiles {
-        let name = profile.name.as_str();
-        let filter = default_of::<R>(alloc, cx, name, &profile.config.default_filter)?;
+        let filter = default_of::<R>(alloc, cx, profile)?;
         found.push(filter)?;
     }
     Ok(found)
@@ -36,17 +37,17 @@ pub(crate) fn read_defaults<R: Languages>(
 fn default_of<R: Languages>(
     alloc: Global,
     cx: &R::Cx,
-    profile: &str,
-    text: &Option<Text>,
+    profile: &NamedProfile,
 ) -> Result<Option<R::Filter>, LoadError>
-    ensures { Passes (R.is_filter cx.now) R.is_spec R.is_too_deep (default_check profile.now
-        text.now) (IsReadAs (R.is_filter cx.now purpose.Default) text.now) result }
+    ensures { let text = default_filter_in profile.now.config in Passes (R.is_filter cx.now)
+        R.is_spec R.is_too_deep (default_check profile.now.name text)
+        (IsReadAs (R.is_filter cx.now purpose.Default) text) result }
 {
-    match text {
+    match get::<DefaultFilterKey, _, OwnKeys, ProfileConfig>(&profile.config) {
         None => Ok(None),
         Some(text) => match R::read_filter(alloc, cx, FilterPurpose::Default, text)? {
             Some(filter) => Ok(Some(filter)),
-            None => Err(bad_filter(alloc, profile, text.as_str())),
+            None => Err(bad_filter(alloc, profile.name.as_str(), text.as_str())),
         },
     }
 }

@@ -12,11 +12,12 @@ ghost use Rattle.nextest_config_elements_versions.specs.Demand as demand;
 ghost use Rattle.nextest_config_resolution_load.specs.File.{by_keys, check_of, file_in, profiles_at_file, profiles_in_file, rules_in_profile, rules_in_table, rules_of_profile};
 ghost use Rattle.nextest_config_resolution_overrides.specs.Groups.{groups_at};
 ghost use Rattle.nextest_config_resolution_scripts.specs.Scripts.{old_scripts_at, scripts_at};
-ghost use Rattle.nextest_config_resolution_values.specs.File.{store_dir_at};
+ghost use Rattle.nextest_config_resolution_keys.specs.File.{store_dir_at};
 
 use crate::file_config::{FileConfig, ProfileRules};
 use nextest_config_elements_toml::{BadValue, ValueError, member, refused};
 use nextest_config_elements_versions::{deserialize_experimental, deserialize_nextest_version};
+use nextest_config_resolution_keys::{deserialize_profile, deserialize_store_dir};
 use nextest_config_resolution_overrides::{
     NamedGroup, OverrideConfig, deserialize_overrides, deserialize_test_groups,
 };
@@ -24,7 +25,6 @@ use nextest_config_resolution_scripts::{
     NamedScript, ScriptConfig, ScriptRuleConfig, SetupScriptConfig, deserialize_old_scripts,
     deserialize_script_rules, deserialize_scripts,
 };
-use nextest_config_resolution_values::{deserialize_profile, deserialize_store_dir};
 use nextest_text::{Listing, Text};
 use std::alloc::Global;
 use std::cmp::Ordering;

@@ -1,9 +1,9 @@
 // What a configuration comes to.
 use crate::loaded_rule::{LoadedOverride, LoadedScriptRule};
 use nextest_config_resolution_inheritance::Inherits;
+use nextest_config_resolution_keys::{InheritsKey, OwnKeys, ProfileConfig, get};
 use nextest_config_resolution_overrides::NamedGroup;
 use nextest_config_resolution_scripts::ScriptConfig;
-use nextest_config_resolution_values::ProfileConfig;
 use nextest_text::{Listing, Text};
 
 /// A profile by its name.
@@ -22,16 +22,18 @@ impl Drop for NamedProfile {
 }
 
 impl Inherits for NamedProfile {
+    ghost use Rattle.nextest_config_resolution_keys.specs.File.{inherits_in};
+
     ghost name_of = { λ it. it.name };
 
-    ghost parent_of = { λ it. it.config.inherits };
+    ghost parent_of = { λ it. inherits_in it.config };
 
     fn name(&self) -> &str {
         self.name.as_str()
     }
 
     fn inherits(&self) -> Option<&str> {
-        match &self.config.inherits {
+        match get::<InheritsKey, _, OwnKeys, ProfileConfig>(&self.config) {
             Some(parent) => Some(parent.as_str()),
             None => None,
         }

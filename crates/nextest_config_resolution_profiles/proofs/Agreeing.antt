@@ -28,9 +28,9 @@ use Rattle.nextest_config_resolution_tree.specs.Tree.{merge}
 use Rattle.nextest_config_resolution_tree.proofs.Tables.{over_none}
 use Rattle.nextest_config_resolution_tree.proofs.Keys.{equal_keys, key_cmp}
 use Rattle.nextest_config_resolution_tree.proofs.Standings.{get_merge, joint}
-use Rattle.nextest_config_resolution_values.specs.File.{Named, profiles_in}
-use Rattle.nextest_config_resolution_values.specs.Profile.{profile_of}
-use Rattle.nextest_config_resolution_values.specs.declared.profile_config.ProfileConfig.{ProfileConfig}
+use Rattle.nextest_config_resolution_keys.specs.File.{Named, profiles_in}
+use Rattle.nextest_config_resolution_keys.specs.Profile.{profile_of}
+use Rattle.nextest_config_resolution_keys.specs.declared.profile_config.ProfileConfig.{ProfileConfig}
 use Rattle.nextest_config_resolution_profiles.specs.Agreeing.{AgreeBut, FilesAgree, SourceAgrees, SourcesAgree, inside, is_one_of, named_members, profiles_below}
 use Rattle.nextest_config_resolution_profiles.specs.Config.{values_of}
 use Rattle.nextest_config_resolution_profiles.proofs.Tables.{IsRead, MayBeTable, file_parts, profiles_table}

@@ -24,7 +24,7 @@ use Rattle.nextest_config_resolution_scripts.specs.declared.script_rule.ScriptRu
 use Rattle.nextest_config_resolution_scripts.specs.declared.setup_script.SetupScriptConfig.{SetupScriptConfig}
 use Rattle.nextest_config_resolution_settings.specs.Rules.{is_of_profile, rules_of}
 use Rattle.nextest_config_resolution_sources.specs.declared.source.ConfigSource.{ConfigSource}
-use Rattle.nextest_config_resolution_values.specs.File.{store_dir_at}
+use Rattle.nextest_config_resolution_keys.specs.File.{store_dir_at}
 use Rattle.nextest_config_resolution_profiles.specs.Agreeing.{FilesAgree, SourceAgrees, inside, is_one_of, named_members, profiles_below}
 use Rattle.nextest_config_resolution_profiles.proofs.Agreeing.{FileIsRead}
 use Rattle.nextest_config_resolution_profiles.proofs.Enabling.{among_back}

@@ -12,7 +12,7 @@ use Rattle.nextest_config_resolution_load.specs.Rules.{Conditions}
 use Rattle.nextest_config_resolution_load.specs.declared.loaded_rule.LoadedRule.{LoadedRule}
 use Rattle.nextest_config_resolution_profiles.specs.Asking.{AsksNoGroups, IsAskable, Serves}
 use Rattle.nextest_config_resolution_profiles.specs.Languages.{IsFilterIn}
-use Rattle.nextest_config_resolution_values.specs.File.{Named}
+use Rattle.nextest_config_resolution_keys.specs.File.{Named, default_filter_in}
 
 module _ {F Cx : Type 0} {IsParsed : Cx → FiltersetKind → KnownGroups → List ℕ → F → Type 0}
     {OnBinary : F → F → Binary → Option Bool → Type 0} {OnTest : F → F → Test → Bool → Type 0}
@@ -31,12 +31,12 @@ module _ {F Cx : Type 0} {IsParsed : Cx → FiltersetKind → KnownGroups → Li
   asks_none (Some text) (Some it) is = laws.override_has_no_groups cx groups.Unavailable text it is
 
   pub all_serve : (profiles : List Named) (filters : List (Option F))
-      → AllZip (λ profile found. IsReadAs (IsFilterIn IsParsed has_runtime_leaves cx purpose.Default) profile.1.default_filter found) profiles filters
+      → AllZip (λ profile found. IsReadAs (IsFilterIn IsParsed has_runtime_leaves cx purpose.Default) (default_filter_in profile.1) found) profiles filters
       → AllByRecursion (Serves serves_as_default) filters
   all_serve [] [] all = tt
   all_serve [] (found ∷ filters) all = absurd all
   all_serve (profile ∷ profiles) [] all = absurd all
-  all_serve (profile ∷ profiles) (found ∷ filters) all = (serves profile.1.default_filter found all.0, all_serve profiles filters all.1)
+  all_serve (profile ∷ profiles) (found ∷ filters) all = (serves (default_filter_in profile.1) found all.0, all_serve profiles filters all.1)
 
   pub all_askable : {P S : Type 0} (conditions : P → Conditions) (IsSpec : IsSpecBy S) (rules : List P) (loaded : List (LoadedRule P F S))
       → AreReadBy conditions (IsFilterIn IsParsed has_runtime_leaves cx) IsSpec rules loaded → AllByRecursion (IsAskable serves_as_default asks_groups) loaded

@@ -14,17 +14,15 @@ use Rattle.nextest_config_resolution_profiles.specs.BuiltIn.{bench_members, buil
 use Rattle.nextest_config_resolution_profiles.specs.Config.{values_of}
 use Rattle.nextest_config_resolution_profiles.proofs.Found.{found_by}
 use Rattle.nextest_config_resolution_profiles.proofs.Kept.{kept_in}
-use Rattle.nextest_config_resolution_profiles.proofs.Tables.{IsRead, MayBeTable, below, config_parts, file_parts, key_kept, profiles_table, read_table, store_table, table_kept, tabled}
+use Rattle.nextest_config_resolution_profiles.proofs.Tables.{IsRead, MayBeTable, below, config_parts, key_kept, profiles_table, read_table, store_table, table_kept}
 use Rattle.nextest_config_resolution_sources.specs.declared.source.ConfigSource.{ConfigSource}
 use Rattle.nextest_config_resolution_profiles.specs.Agreeing.{inside}
 use Rattle.nextest_config_resolution_tree.specs.Tree.{merge}
 use Rattle.nextest_config_resolution_tree.proofs.Keys.{key_cmp}
-use Rattle.nextest_config_elements_deserialize.specs.Tables.{IsTable, MayBe}
-use Rattle.nextest_config_resolution_values.specs.Accepted.{IsBench, IsJunit, IsProfile}
-use Rattle.nextest_config_resolution_values.specs.File.{Named, profiles_in, profiles_of, store_dir_in, store_dir_of}
-use Rattle.nextest_config_resolution_values.specs.Profile.{profile_in, profile_of}
-use Rattle.nextest_config_resolution_values.specs.declared.profile_config.ProfileConfig.{ProfileConfig}
-use Rattle.nextest_config_resolution_values.proofs.Accepting.{accepted_profile}
+use Rattle.nextest_config_resolution_keys.proofs.Read.{ReadsEach, bench_above, junit_above, reads_each}
+use Rattle.nextest_config_resolution_keys.specs.File.{Named, profiles_in, profiles_of, store_dir_in, store_dir_of}
+use Rattle.nextest_config_resolution_keys.specs.Profile.{profile_in, profile_of}
+use Rattle.nextest_config_resolution_keys.specs.declared.profile_config.ProfileConfig.{ProfileConfig}
 use Rattle.nextest_config_elements_versions.specs.declared.feature.FeatureSet.{FeatureSet}
 
 -- ---- a profile by its name
@@ -62,12 +60,6 @@ profile_at name (member other here more) given all e read =
 
 -- ---- the tables of a file
 
--- a key has a table, or is left out
-may_be_table : {A : Type 0} (Is : Members → A → Type 0) (members : Members) (key : List ℕ) (x : Option A) → MayBe members key (IsTable Is) x
-    → MayBeTable (get_member key members)
-may_be_table Is all key None left_out = inl left_out
-may_be_table Is all key (Some x) (given, there, is) = let it = tabled Is given x is in inr (it.0, there ∙ ap Some it.1)
-
 -- what stands in the place of a profile is a table, and so are the values in it that may be
 record FitsProfile (found : Option Data) : Type 0 where
   itself : MayBeTable found
@@ -81,11 +73,10 @@ profile_fits name profiles all read = by_found (get_member name profiles) refl w
   by_found (Some given) e =
       let (value, listed, read_as) = profile_at name profiles given all e read in
       let (members, same, read_in) = read_table profile_in given value read_as in
-      let is : IsProfile members value = (accepted_profile members value).0 read_in in
       subst (λ found. FitsProfile (Some found)) (sym same) (record {
         itself = inr (members, refl);
-        bench = may_be_table IsBench members (codes "bench") value.bench is.bench;
-        junit = may_be_table IsJunit members (codes "junit") value.junit is.junit;
+        bench = bench_above members value read_in;
+        junit = junit_above members value read_in;
       })
 
 -- ---- what stays
@@ -164,11 +155,11 @@ loaded_has Is IsSpec features sources loaded it = kept_in Is IsSpec features bui
 
 -- the table of `default` is read as its values
 pub values_read : (top : Members) (config : MergedConfig) (it : HasBuiltIn top) → config_in top ≡ Ok config
-    → (value : ProfileConfig) × (values_of config.profiles default ≡ Some value) × IsProfile it.values value
+    → (value : ProfileConfig) × (values_of config.profiles default ≡ Some value) × ReadsEach it.values value
 values_read top config it e =
     let read : profiles_in it.profiles ≡ Ok config.profiles = ap profiles_of (sym it.at_profiles) ∙ (config_parts top config e).profiles_read in
     let (value, found, read_as) = profile_at default it.profiles (table it.values) config.profiles it.at_values read in
-    (value, found, (accepted_profile it.values value).0 read_as)
+    (value, found, reads_each it.values value read_as)
 
 -- and the one of the store as its directory
 pub store_read : (top : Members) (config : MergedConfig) (it : HasBuiltIn top) → config_in top ≡ Ok config → store_dir_in it.store ≡ Ok config.store_dir

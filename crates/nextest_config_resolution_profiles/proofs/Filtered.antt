@@ -12,8 +12,8 @@ use Rattle.nextest_config_resolution_profiles.specs.Laws.{DefaultIsRead}
 use Rattle.nextest_config_resolution_profiles.specs.Whole.{AreFiltered}
 use Rattle.nextest_config_resolution_settings.specs.Keys as key
 use Rattle.nextest_config_resolution_settings.specs.Nearest.{IsNearest}
-use Rattle.nextest_config_resolution_values.specs.File.{Named}
-use Rattle.nextest_config_resolution_values.specs.declared.profile_config.ProfileConfig.{ProfileConfig}
+use Rattle.nextest_config_resolution_keys.specs.File.{Named, default_filter_in}
+use Rattle.nextest_config_resolution_keys.specs.declared.profile_config.ProfileConfig.{ProfileConfig}
 
 -- what stands at a place of two lists
 pub zip_at : {A B : Type 0} (R : A → B → Type 0) (xs : List A) (ys : List B) (i : ℕ) (x : A) → AllZip R xs ys → slice_get xs i ≡ Some x → (y : B) × (slice_get ys i ≡ Some y) × R x y
@@ -57,21 +57,21 @@ shape Is (Some text) None is = absurd is
 shape Is (Some text) (Some it) is = refl
 
 pub all_filtered : {F : Type 0} (Is : List ℕ → F → Type 0) (profiles : List NamedProfile) (filters : List (Option F))
-    → AllZip (λ profile found. IsReadAs Is profile.1.default_filter found) (map named_of profiles) filters → AreFiltered profiles filters
+    → AllZip (λ profile found. IsReadAs Is (default_filter_in profile.1) found) (map named_of profiles) filters → AreFiltered profiles filters
 all_filtered Is [] [] all = tt
 all_filtered Is [] (found ∷ filters) all = absurd all
 all_filtered Is (profile ∷ profiles) [] all = absurd all
-all_filtered Is (profile ∷ profiles) (found ∷ filters) all = (shape Is profile.config.default_filter found all.0, all_filtered Is profiles filters all.1)
+all_filtered Is (profile ∷ profiles) (found ∷ filters) all = (shape Is (default_filter_in profile.config) found all.0, all_filtered Is profiles filters all.1)
 
 -- a filter is the one of its text
 pub default_is_read : {F S : Type 0} (Is : IsFilterBy F) (IsSpec : IsSpecBy S) (IsTooDeep : List ℕ → Type 0) → DefaultIsRead Is IsSpec IsTooDeep
 default_is_read {F} {S} Is IsSpec IsTooDeep features root sources config names chain it loaded of =
     let profiles = config.loaded.profiles in
     let stands : slice_get (map named_of profiles) of.at ≡ Some (named_of of.from) = slice_get-map named_of profiles of.at ∙ ap (option_map named_of) of.stands in
-    let found = zip_at (λ (profile : Named) (found : Option F). IsReadAs (Is purpose.Default) profile.1.default_filter found) (map named_of profiles) config.loaded.default_filters of.at (named_of of.from) loaded.1.filters stands in
+    let found = zip_at (λ (profile : Named) (found : Option F). IsReadAs (Is purpose.Default) (default_filter_in profile.1) found) (map named_of profiles) config.loaded.default_filters of.at (named_of of.from) loaded.1.filters stands in
     let same : found.0 ≡ Some it.filter.now = (let f : Some found.0 ≡ Some (Some it.filter.now) = sym found.1 ∙ of.read in cc) in
     subst (λ (text : Option (List ℕ)). IsReadAs (Is purpose.Default) text (Some it.filter.now)) of.sets
-    (subst (λ (filter : Option F). IsReadAs (Is purpose.Default) of.from.config.default_filter filter) same found.2)
+    (subst (λ (filter : Option F). IsReadAs (Is purpose.Default) (default_filter_in of.from.config) filter) same found.2)
 
 -- ---- the default filter of a chain
 
@@ -90,7 +90,7 @@ pub record DefaultAt {F : Type 0} (profiles : List NamedProfile) (filters : List
   pub within : near < length places
   pub profile : NamedProfile
   pub stands : slice_get profiles (get_or places near 0) ≡ Some profile
-  pub sets : profile.config.default_filter ≡ Some text
+  pub sets : default_filter_in profile.config ≡ Some text
   pub found : F
   pub read : slice_get filters (get_or places near 0) ≡ Some (Some found)
 
@@ -102,10 +102,10 @@ default_at profiles filters places values near text inside at filtered nearest =
     let within : near < length places = omega (arith, slice_get_within values near nearest.layer here, as_many (map named_of profiles) places values at) in
     let place = get_or places near 0 in
     let there = stands_at profiles place (inside near 0 within) in
-    let sets : there.0.config.default_filter ≡ Some text =
+    let sets : default_filter_in there.0.config ≡ Some text =
     ap key.default_filter (config_at profiles places values near place there.0 nearest.layer at here (slice_get-get_or places near 0 within) there.1) ∙ nearest.sets in
-    let beside = zip_at (λ profile found. is_some found ≡ is_some profile.config.default_filter) profiles filters place there.0 filtered there.1 in
-    let found = some_found there.0.config.default_filter beside.0 text beside.2 sets in
+    let beside = zip_at (λ profile found. is_some found ≡ is_some (default_filter_in profile.config)) profiles filters place there.0 filtered there.1 in
+    let found = some_found (default_filter_in there.0.config) beside.0 text beside.2 sets in
     record { within = within; profile = there.0; stands = there.1; sets = sets; found = found.0; read = beside.1 ∙ ap Some found.1 }
 
 -- a filter stands there

@@ -10,8 +10,8 @@ use Rattle.nextest_config_resolution_inheritance.specs.Inheritance.{Name, Parent
 use Rattle.nextest_config_resolution_inheritance.proofs.Found.{length_names, name_in}
 use Rattle.nextest_config_resolution_load.specs.Checks.{parents_of}
 use Rattle.nextest_config_resolution_profiles.specs.Config.{values_of}
-use Rattle.nextest_config_resolution_values.specs.File.{Named}
-use Rattle.nextest_config_resolution_values.specs.declared.profile_config.ProfileConfig.{ProfileConfig}
+use Rattle.nextest_config_resolution_keys.specs.File.{Named, inherits_in}
+use Rattle.nextest_config_resolution_keys.specs.declared.profile_config.ProfileConfig.{ProfileConfig}
 
 -- ---- a name that stands there has values
 
@@ -61,14 +61,14 @@ values_there profiles (name ∷ chain) each =
 
 -- the next name hangs on the values alone
 abbrev pub next_by : Option ProfileConfig → Name
-next_by found = unwrap_or (option_and_then (λ (it : ProfileConfig). it.inherits) found) default
+next_by found = unwrap_or (option_and_then inherits_in found) default
 
 pub next_of : (profiles : List Named) (name : Name) → next (parents_of profiles) name ≡ next_by (values_of profiles name)
 next_of [] name = refl
 next_of (profile ∷ profiles) name = by_test (bytes_eq name profile.0) (next_of profiles name)
   where
     by_test : (same : Bool) → next (parents_of profiles) name ≡ next_by (values_of profiles name)
-        → unwrap_or (option_and_then (λ (it : Profile). it.1) (cond same (Some (profile.0, profile.1.inherits)) (find (λ (it : Profile). bytes_eq name it.0) (parents_of profiles)))) default
+        → unwrap_or (option_and_then (λ (it : Profile). it.1) (cond same (Some (profile.0, inherits_in profile.1)) (find (λ (it : Profile). bytes_eq name it.0) (parents_of profiles)))) default
         ≡ next_by (found_by name profile profiles same)
     by_test true behind = refl
     by_test false behind = behind

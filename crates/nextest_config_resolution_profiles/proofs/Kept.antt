@@ -26,7 +26,7 @@ use Rattle.nextest_config_resolution_sources.specs.declared.source.ConfigSourceO
 use Rattle.nextest_config_resolution_tree.specs.Tree.{keys, over, merge}
 use Rattle.nextest_config_resolution_tree.proofs.Keys.{key_cmp, equal_keys}
 use Rattle.nextest_config_resolution_tree.proofs.Standings.{get_merge, joint}
-use Rattle.nextest_config_resolution_values.specs.File.{profiles_in, profiles_of, store_dir_of}
+use Rattle.nextest_config_resolution_keys.specs.File.{profiles_in, profiles_of, store_dir_of}
 use Rattle.nextest_config_elements_versions.specs.declared.feature.FeatureSet.{FeatureSet}
 
 -- ---- keys

@@ -14,8 +14,8 @@ use Rattle.nextest_config_resolution_load.specs.Load.{named_of}
 use Rattle.nextest_config_resolution_load.specs.declared.loaded_config.NamedProfile.{NamedProfile}
 use Rattle.nextest_config_resolution_load.specs.Load.{LoadedOverride, LoadedScriptRule}
 use Rattle.nextest_config_resolution_load.proofs.Configs.{same_names, same_parents}
-use Rattle.nextest_config_resolution_values.specs.File.{Named}
-use Rattle.nextest_config_resolution_values.specs.declared.profile_config.ProfileConfig.{ProfileConfig}
+use Rattle.nextest_config_resolution_keys.specs.File.{Named, inherits_in}
+use Rattle.nextest_config_resolution_keys.specs.declared.profile_config.ProfileConfig.{ProfileConfig}
 use Rattle.nextest_config_resolution_settings.specs.Nearest.{lent_layers}
 use Rattle.nextest_config_resolution_settings.specs.Rules.{profile_of, rules_of, script_profile_of}
 use Rattle.nextest_config_resolution_profiles.specs.ChainRules.{rules_in}
@@ -31,7 +31,7 @@ all_of all = parents_of (map named_of all)
 pub name_is : (all : List NamedProfile) (k : ℕ) (d : NamedProfile) → k < length all → name_at (all_of all) k ≡ (get_or all k d).name
 name_is all k d within =
     ap (λ (ps : Parents). name_at ps k) (same_parents all)
-    ∙ ap (λ (p : Profile). p.0) (get_or-map (λ (it : NamedProfile). (it.name, it.config.inherits)) all k d ([], None) within)
+    ∙ ap (λ (p : Profile). p.0) (get_or-map (λ (it : NamedProfile). (it.name, inherits_in it.config)) all k d ([], None) within)
 
 pub length_names : (all : List NamedProfile) → length (names (all_of all)) ≡ length all
 length_names all = ap length (same_names (map named_of all)) ∙ length-map (map named_of all) (λ (it : Named). it.0) ∙ length-map all named_of
@@ -96,7 +96,7 @@ names_are (it ∷ all) = ap (λ (more : List Name). it.name ∷ more) (names_are
 
 -- the chain of a profile, by places
 pub chained : (all : List NamedProfile) (place : ℕ) (places given : List ℕ) (values : List ProfileConfig) → Rise (all_of all) → given ≡ places
-    → IsChain (map (λ it. (it.name, it.config.inherits)) all) (name_at (map (λ it. (it.name, it.config.inherits)) all) place) (names_at (map (λ it. (it.name, it.config.inherits)) all) places)
+    → IsChain (map (λ it. (it.name, inherits_in it.config)) all) (name_at (map (λ it. (it.name, inherits_in it.config)) all) place) (names_at (map (λ it. (it.name, inherits_in it.config)) all) places)
     → AreAt (map named_of all) given values → IsChainOf (map named_of all) (name_at (all_of all) place) values
 chained all place places given values rise same chain at = record {
   names = names_at (all_of all) places;
@@ -108,7 +108,7 @@ chained all place places given values rise same chain at = record {
 
 -- with its default filter and its rules
 pub is_chained : {F S : Type 0} (all : List NamedProfile) (filters : List (Option F)) (rules : List (LoadedOverride F S)) (scripts : List (LoadedScriptRule F S)) (place : ℕ) (places given : List ℕ) (it : Chained F S) → Rise (all_of all) → given ≡ places
-    → IsChain (map (λ it. (it.name, it.config.inherits)) all) (name_at (map (λ it. (it.name, it.config.inherits)) all) place) (names_at (map (λ it. (it.name, it.config.inherits)) all) places)
+    → IsChain (map (λ it. (it.name, inherits_in it.config)) all) (name_at (map (λ it. (it.name, inherits_in it.config)) all) place) (names_at (map (λ it. (it.name, inherits_in it.config)) all) places)
     → AreAt (map named_of all) given (lent_layers it.values.items) → IsDefaultFilterOf all filters (names_at (all_of all) places) (lent_layers it.values.items) it.default_filter
     → rules_in it.rules.items ≡ rules_of (in_profile profile_of) rules (names_at (all_of all) places)
     → rules_in it.script_rules.items ≡ rules_of (in_profile script_profile_of) scripts (names_at (all_of all) places)

@@ -19,7 +19,7 @@ use Rattle.nextest_config_resolution_scripts.specs.declared.script_config.Script
 use Rattle.nextest_config_resolution_settings.specs.Rules.{profile_of, script_profile_of}
 use Rattle.nextest_config_resolution_sources.specs.Counting.{counting_sources}
 use Rattle.nextest_config_resolution_sources.specs.declared.source.ConfigSource.{ConfigSource}
-use Rattle.nextest_config_resolution_values.specs.File.{Named, profiles_at, profiles_of, store_dir_at, store_dir_of}
+use Rattle.nextest_config_resolution_keys.specs.File.{Named, profiles_at, profiles_of, store_dir_at, store_dir_of}
 use Rattle.nextest_config_resolution_profiles.specs.Agreeing.{ProfileIsolation, SourceAgrees, is_one_of, profiles_below}
 use Rattle.nextest_config_resolution_profiles.specs.BuiltIn.{built_in_members}
 use Rattle.nextest_config_resolution_profiles.specs.Config.{values_of}

@@ -7,8 +7,8 @@ use Rattle.nextest_config_resolution_load.specs.Checks.{parents_of}
 use Rattle.nextest_config_resolution_profiles.specs.Config.{values_of}
 use Rattle.nextest_config_resolution_profiles.specs.Laws.{SameChain}
 use Rattle.nextest_config_resolution_profiles.proofs.Found.{next_by, next_of}
-use Rattle.nextest_config_resolution_values.specs.File.{Named}
-use Rattle.nextest_config_resolution_values.specs.declared.profile_config.ProfileConfig.{ProfileConfig}
+use Rattle.nextest_config_resolution_keys.specs.File.{Named}
+use Rattle.nextest_config_resolution_keys.specs.declared.profile_config.ProfileConfig.{ProfileConfig}
 
 module _ (profiles others : List Named) where
   abbrev pub Same : Name → Type 0

@@ -21,8 +21,8 @@ use Rattle.nextest_config_resolution_profiles.proofs.Kept.{kept_profile}
 use Rattle.nextest_config_resolution_profiles.proofs.Found.{name_there, profile_there, value_there, values_there}
 use Rattle.nextest_config_resolution_profiles.proofs.Names.{names_are}
 use Rattle.nextest_config_resolution_sources.specs.declared.source.ConfigSource.{ConfigSource}
-use Rattle.nextest_config_resolution_values.specs.File.{Named}
-use Rattle.nextest_config_resolution_values.specs.declared.profile_config.ProfileConfig.{ProfileConfig}
+use Rattle.nextest_config_resolution_keys.specs.File.{Named}
+use Rattle.nextest_config_resolution_keys.specs.declared.profile_config.ProfileConfig.{ProfileConfig}
 use Rattle.nextest_config_elements_versions.specs.declared.feature.FeatureSet.{FeatureSet}
 
 -- ---- the names of a chain

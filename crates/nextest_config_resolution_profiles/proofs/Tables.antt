@@ -17,9 +17,9 @@ use Rattle.nextest_config_resolution_profiles.specs.Agreeing.{inside}
 use Rattle.nextest_config_resolution_tree.specs.Tree.{merge}
 use Rattle.nextest_config_resolution_tree.proofs.Standings.{joint, get_merge}
 use Rattle.nextest_config_elements_deserialize.specs.Tables.{IsTable}
-use Rattle.nextest_config_resolution_values.specs.File.{Named, profiles_at, profiles_in, profiles_of, store_dir_at, store_dir_in, store_dir_of}
-use Rattle.nextest_config_resolution_values.specs.Profile.{profile_in, profile_of}
-use Rattle.nextest_config_resolution_values.specs.declared.profile_config.ProfileConfig.{ProfileConfig}
+use Rattle.nextest_config_resolution_keys.specs.File.{Named, profiles_at, profiles_in, profiles_of, store_dir_at, store_dir_in, store_dir_of}
+use Rattle.nextest_config_resolution_keys.specs.Profile.{profile_in, profile_of}
+use Rattle.nextest_config_resolution_keys.specs.declared.profile_config.ProfileConfig.{ProfileConfig}
 use Rattle.nextest_config_elements_deserialize.specs.Keys.{table_by}
 use Rattle.nextest_config_elements_deserialize.proofs.Parts.{table_is}
 

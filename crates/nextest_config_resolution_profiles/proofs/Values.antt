@@ -7,11 +7,11 @@ use Rattle.std.specs.Str.{bytes_eq}
 use Rattle.nextest_config_resolution_inheritance.proofs.Found.{find_at, one_place}
 use Rattle.nextest_config_resolution_inheritance.specs.Inheritance.{Profile, Rise, name_at}
 use Rattle.nextest_config_resolution_load.specs.Checks.{parents_of}
-use Rattle.nextest_config_resolution_values.specs.File.{Named}
+use Rattle.nextest_config_resolution_keys.specs.File.{Named, inherits_in}
 use Rattle.nextest_config_resolution_profiles.specs.Config.{values_of}
 
 name_of : (profiles : List Named) (k : ℕ) (d : Named) → k < length profiles → name_at (parents_of profiles) k ≡ (get_or profiles k d).0
-name_of profiles k d within = ap (λ (p : Profile). p.0) (get_or-map (λ (it : Named). (it.0, it.1.inherits)) profiles k d ([], None) within)
+name_of profiles k d within = ap (λ (p : Profile). p.0) (get_or-map (λ (it : Named). (it.0, inherits_in it.1)) profiles k d ([], None) within)
 
 none_before : (profiles : List Named) (it : Named) (j k : ℕ) → Rise (parents_of profiles) → j < k → k < length profiles → get_or profiles k it ≡ it
     → bytes_eq it.0 (get_or profiles j it).0 ≡ false
@@ -19,7 +19,7 @@ none_before profiles it j k rise below within is = by_test (bytes_eq it.0 (get_o
   by_test : (same : Bool) → bytes_eq it.0 (get_or profiles j it).0 ≡ same → same ≡ false
   by_test false e = refl
   by_test true e =
-      let each : length (parents_of profiles) ≡ length profiles = length-map profiles (λ (p : Named). (p.0, p.1.inherits)) in
+      let each : length (parents_of profiles) ≡ length profiles = length-map profiles (λ (p : Named). (p.0, inherits_in p.1)) in
       let before : j < length profiles = omega (arith, below, within) in
       let names : name_at (parents_of profiles) j ≡ name_at (parents_of profiles) k =
       name_of profiles j it before ∙ sym ((bytes_eq-Decides it.0 (get_or profiles j it).0).0 e) ∙ sym (name_of profiles k it within ∙ ap (λ (p : Named). p.0) is) in

@@ -9,7 +9,8 @@ use Rattle.nextest_config_resolution_load.specs.Checks.{config_in}
 use Rattle.nextest_config_resolution_load.specs.File.{file_in}
 use Rattle.nextest_config_resolution_settings.specs.Keys as key
 use Rattle.nextest_config_resolution_settings.specs.Nearest.{SetsNone}
-use Rattle.nextest_config_resolution_values.specs.declared.profile_config.ProfileConfig.{ProfileConfig}
+use Rattle.nextest_config_resolution_keys.specs.File.{inherits_in}
+use Rattle.nextest_config_resolution_keys.specs.declared.profile_config.ProfileConfig.{ProfileConfig}
 
 -- a text is written as this tree
 abbrev pub WrittenAs : List ℕ → Type 0
@@ -22,7 +23,7 @@ pub record ReadAs : Type 0 where
 
 -- its profiles may inherit as they do
 abbrev pub Accepted : Type 0
-Accepted = IsAccepted (parents_in (λ named. named.0) (λ named. named.1.inherits) built_in_config.profiles)
+Accepted = IsAccepted (parents_in (λ named. named.0) (λ named. inherits_in named.1) built_in_config.profiles)
 
 -- each setting that has a fallback is set by a profile of a chain, and so is the default filter
 pub record SetsEach (chain : List ProfileConfig) : Type 0 where

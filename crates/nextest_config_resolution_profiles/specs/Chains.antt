@@ -7,8 +7,8 @@ use Rattle.nextest_config_resolution_load.specs.declared.loaded_config.NamedProf
 use Rattle.nextest_config_resolution_load.specs.Load.{LoadedOverride, LoadedScriptRule}
 use Rattle.nextest_config_resolution_settings.specs.Nearest.{lent_layers}
 use Rattle.nextest_config_resolution_settings.specs.Rules.{profile_of, rules_of, script_profile_of}
-use Rattle.nextest_config_resolution_values.specs.File.{Named}
-use Rattle.nextest_config_resolution_values.specs.declared.profile_config.ProfileConfig.{ProfileConfig}
+use Rattle.nextest_config_resolution_keys.specs.File.{Named}
+use Rattle.nextest_config_resolution_keys.specs.declared.profile_config.ProfileConfig.{ProfileConfig}
 use Rattle.nextest_config_resolution_profiles.specs.ChainRules.{rules_in}
 use Rattle.nextest_config_resolution_profiles.specs.Config.{IsChainOf, IsDefaultFilterOf}
 use Rattle.nextest_config_resolution_profiles.specs.Early.{in_profile}

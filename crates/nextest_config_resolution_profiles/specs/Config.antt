@@ -13,8 +13,8 @@ use Rattle.nextest_config_resolution_settings.specs.Keys as key
 use Rattle.nextest_config_resolution_settings.specs.Nearest.{IsNearest}
 use Rattle.nextest_config_resolution_settings.specs.Rules.{profile_of, rules_of, script_profile_of}
 use Rattle.nextest_config_resolution_sources.specs.declared.source.ConfigSource.{ConfigSource}
-use Rattle.nextest_config_resolution_values.specs.File.{Named}
-use Rattle.nextest_config_resolution_values.specs.declared.profile_config.ProfileConfig.{ProfileConfig}
+use Rattle.nextest_config_resolution_keys.specs.File.{Named, default_filter_in}
+use Rattle.nextest_config_resolution_keys.specs.declared.profile_config.ProfileConfig.{ProfileConfig}
 use Rattle.nextest_config_resolution_settings.specs.declared.default_filter.CompiledDefaultFilter.{CompiledDefaultFilter}
 use Rattle.nextest_config_resolution_settings.specs.declared.default_filter.CompiledDefaultFilterSection.TheVariants as section
 use Rattle.nextest_config_resolution_profiles.specs.declared.profile_error.ProfileError.{ProfileError}
@@ -63,7 +63,7 @@ pub record IsDefaultFilterOf {F : Type 0} (profiles : List NamedProfile) (filter
   pub from : NamedProfile
   pub stands : slice_get profiles at ≡ Some from
   pub of_name : from.name ≡ it.profile.now
-  pub sets : from.config.default_filter ≡ Some text
+  pub sets : default_filter_in from.config ≡ Some text
   pub read : slice_get filters at ≡ Some (Some it.filter.now)
   pub section : it.section ≡ section.Profile
 

@@ -5,7 +5,7 @@ use Rattle.nextest_config_resolution_load.specs.declared.loaded_rule.LoadedRule.
 use Rattle.nextest_config_resolution_overrides.specs.declared.groups.NamedGroup.{NamedGroup}
 use Rattle.nextest_config_resolution_scripts.specs.declared.script_config.ScriptConfig.{ScriptConfig}
 use Rattle.nextest_config_resolution_settings.specs.declared.default_filter.CompiledDefaultFilter.{CompiledDefaultFilter}
-use Rattle.nextest_config_resolution_values.specs.declared.profile_config.ProfileConfig.{ProfileConfig}
+use Rattle.nextest_config_resolution_keys.specs.declared.profile_config.ProfileConfig.{ProfileConfig}
 
 -- the name of the profile in which a rule is written, by what it says of itself
 abbrev pub in_profile : {P F S : Type 0} → (P → List ℕ) → LoadedRule P F S → List ℕ

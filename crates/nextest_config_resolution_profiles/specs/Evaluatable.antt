@@ -10,7 +10,8 @@ use Rattle.nextest_config_resolution_settings.specs.Keys as key
 use Rattle.nextest_config_resolution_settings.specs.Nearest.{SetsNone}
 use Rattle.nextest_config_resolution_settings.specs.Profile.{IsSetTo, OfProfiles}
 use Rattle.nextest_config_resolution_settings.specs.declared.default_filter.CompiledDefaultFilter.{CompiledDefaultFilter}
-use Rattle.nextest_config_resolution_values.specs.declared.profile_config.ProfileConfig.{ProfileConfig}
+use Rattle.nextest_config_resolution_keys.specs.File.{inherits_in}
+use Rattle.nextest_config_resolution_keys.specs.declared.profile_config.ProfileConfig.{ProfileConfig}
 
 -- its name, the directory of its files, the profiles that it is read from, its default filter, its
 -- rules in the order in which they are asked, and all groups of tests and scripts
@@ -39,7 +40,7 @@ pub record IsPutOn {F S Facts : Type 0} (value_on : S → Facts → Option Bool)
 -- the parent that the first of a chain sets
 abbrev pub inherits_of : List ProfileConfig → Option (List ℕ)
 inherits_of [] = None
-inherits_of (profile ∷ parents) = profile.inherits
+inherits_of (profile ∷ parents) = inherits_in profile
 
 -- a report in JUnit's form, by what a chain sets
 pub record IsJunitOf (chain : List ProfileConfig) (config : JunitConfig) : Type 0 where

@@ -9,8 +9,8 @@ use Rattle.nextest_config_resolution_load.specs.declared.languages.FilterPurpose
 use Rattle.nextest_config_resolution_load.specs.declared.load_error.LoadError.TheVariants.{Refused}
 use Rattle.nextest_config_resolution_load.specs.declared.load_fault.LoadFault.{LoadFault}
 use Rattle.nextest_config_resolution_sources.specs.declared.source.ConfigSource.{ConfigSource}
-use Rattle.nextest_config_resolution_values.specs.File.{Named}
-use Rattle.nextest_config_resolution_values.specs.declared.profile_config.ProfileConfig.{ProfileConfig}
+use Rattle.nextest_config_resolution_keys.specs.File.{Named}
+use Rattle.nextest_config_resolution_keys.specs.declared.profile_config.ProfileConfig.{ProfileConfig}
 use Rattle.nextest_config_resolution_profiles.specs.BuiltInLaws.{SetsEach}
 use Rattle.nextest_config_resolution_profiles.specs.Config.{IsChainOf, IsConfig, IsDefaultFilterOf, IsEarly, names_of, profiles_of, values_of}
 use Rattle.nextest_config_resolution_profiles.specs.Early.{Early}

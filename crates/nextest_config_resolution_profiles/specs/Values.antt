@@ -3,8 +3,8 @@ use Rattle.std.specs.Prelude.{◌≡◌, ℕ, List, Option, Some, find, map, opt
 use Rattle.std.specs.Str.{bytes_eq}
 use Rattle.nextest_config_resolution_inheritance.specs.Inheritance.{Name, IsChain, default}
 use Rattle.nextest_config_resolution_load.specs.Checks.{parents_of}
-use Rattle.nextest_config_resolution_values.specs.File.{Named}
-use Rattle.nextest_config_resolution_values.specs.declared.profile_config.ProfileConfig.{ProfileConfig}
+use Rattle.nextest_config_resolution_keys.specs.File.{Named, default_filter_in}
+use Rattle.nextest_config_resolution_keys.specs.declared.profile_config.ProfileConfig.{ProfileConfig}
 
 -- the values of the profile of a name
 abbrev pub values_of : List Named → Name → Option ProfileConfig
@@ -21,4 +21,4 @@ pub record SetsFilter (profiles : List Named) : Type 0 where
   pub values : ProfileConfig
   pub text : List ℕ
   pub there : values_of profiles default ≡ Some values
-  pub sets : values.default_filter ≡ Some text
+  pub sets : default_filter_in values ≡ Some text

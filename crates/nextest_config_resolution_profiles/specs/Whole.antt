@@ -7,6 +7,7 @@ use Rattle.nextest_config_resolution_load.specs.Load.{merged_of}
 use Rattle.nextest_config_resolution_load.specs.declared.loaded_config.LoadedConfig.{LoadedConfig}
 use Rattle.nextest_config_resolution_load.specs.declared.loaded_config.NamedProfile.{NamedProfile}
 use Rattle.nextest_config_resolution_profiles.specs.Asking.{IsAskable, Serves}
+use Rattle.nextest_config_resolution_keys.specs.File.{default_filter_in}
 use Rattle.nextest_config_resolution_profiles.specs.Values.{SetsFilter}
 
 -- the root of its workspace, and what its sources come to
@@ -16,7 +17,7 @@ pub record Whole (F S : Type 0) : Type 0 where
 
 -- there is a filter for each profile that sets a default filter, and for no other
 abbrev pub AreFiltered : {F : Type 0} → List NamedProfile → List (Option F) → Type 0
-AreFiltered profiles filters = AllZip (λ profile found. is_some found ≡ is_some profile.config.default_filter) profiles filters
+AreFiltered profiles filters = AllZip (λ profile found. is_some found ≡ is_some (default_filter_in profile.config)) profiles filters
 
 -- the profiles inherit as they may, their names rise, `default` is among them and sets a default
 -- filter, the default filters of all are read and serve as such, no rule asks for groups, and there

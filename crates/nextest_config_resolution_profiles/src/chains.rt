@@ -14,6 +14,7 @@ ghost use Rattle.nextest_config_resolution_settings.specs.Nearest.{SetsNone, len
 use crate::chain_rule::ChainRule;
 use crate::rules::rules_at;
 use nextest_config_resolution_inheritance::chain_of;
+use nextest_config_resolution_keys::ProfileConfig;
 use nextest_config_resolution_load::{LoadedOverride, LoadedScriptRule, NamedProfile};
 use nextest_config_resolution_overrides::PlacedOverride;
 use nextest_config_resolution_scripts::PlacedScriptRule;
@@ -21,7 +22,6 @@ use nextest_config_resolution_settings::keys::DefaultFilterKey;
 use nextest_config_resolution_settings::{
     CompiledDefaultFilter, CompiledDefaultFilterSection, nearest,
 };
-use nextest_config_resolution_values::ProfileConfig;
 use nextest_text::{Listing, Text};
 use std::alloc::{AllocError, Global};
 

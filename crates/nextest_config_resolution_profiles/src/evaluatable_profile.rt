@@ -23,6 +23,7 @@ use nextest_config_elements_values::{
     SlowTimeout, TestThreads, ThreadsRequired,
 };
 use nextest_config_resolution_filters::{Filters, Specs};
+use nextest_config_resolution_keys::{InheritsKey, OwnKeys, ProfileConfig, get};
 use nextest_config_resolution_overrides::{NamedGroup, PlacedOverride};
 use nextest_config_resolution_scripts::{PlacedScriptRule, ScriptConfig};
 use nextest_config_resolution_settings::keys::{
@@ -36,7 +37,6 @@ use nextest_config_resolution_settings::{
     CompiledDefaultFilter, SettingSource, TestGroupRef, TestLayers, TestSettings, TrackSource,
     fallbacks, of_profiles, set_by, settings_by, value_or,
 };
-use nextest_config_resolution_values::ProfileConfig;
 use nextest_filtering_filters::TestQuery;
 use nextest_text::Text;
 use std::alloc::{AllocError, Global};
@@ -144,7 +144,7 @@ impl<'c, F: Filters, S: Specs> EvaluatableProfile<'c, F, S> {
     pub fn inherits(&self) -> Option<&'c str>
         ensures { option_copied result ≡ inherits_of self.now.chain }
     {
-        text_of(self.chain().first()?.inherits.as_ref())
+        text_of(get::<InheritsKey, _, OwnKeys, _>(*self.chain().first()?))
     }
 
     /// The directory of its files.

@@ -6,7 +6,7 @@ use Rattle.nextest_config_resolution_scripts.specs.declared.script_rule.PlacedSc
 use Rattle.nextest_config_resolution_scripts.specs.declared.wrapper_script.WrapperScriptConfig.{WrapperScriptConfig}
 use Rattle.nextest_config_resolution_settings.specs.Nearest.{lent_layers}
 use Rattle.nextest_config_resolution_settings.specs.declared.tracking.TestLayers.{TestLayers}
-use Rattle.nextest_config_resolution_values.specs.declared.profile_config.ProfileConfig.{ProfileConfig}
+use Rattle.nextest_config_resolution_keys.specs.declared.profile_config.ProfileConfig.{ProfileConfig}
 
 -- the overrides and the script rules that hold on it, each in their order, the wrapper scripts that
 -- are defined, and the chain of its profile

@@ -1,5 +1,4 @@
-//! The settings, by their keys: one type for each, of which no value is made. And those of a
-//! profile.
+//! The settings, by their keys, and what a profile sets for each.
 use crate::layers::{Sets, Setting};
 use nextest_config_elements_choices::{
     FailWeight, FinalStatusLevel, FlakyResult, MaxFail, StatusLevel, TestOutputDisplay,
@@ -9,12 +8,19 @@ use nextest_config_elements_values::{
     GlobalTimeout, JunitFlakyFailStatus, LeakTimeout, ReportSkipPolicy, RetryPolicy, SlowTimeout,
     TestPriority, TestThreads, ThreadsRequired,
 };
+use nextest_config_resolution_keys::{
+    BenchKeys, JunitKeys, OutputKeys, OwnKeys, ProfileConfig, RunKeys, TestKeys, get,
+};
+pub use nextest_config_resolution_keys::{
+    BenchGlobalTimeoutKey, BenchSlowTimeoutKey, DefaultFilterKey, FailFastKey, FailWeightKey,
+    FailureOutputKey, FinalStatusLevelKey, FlakyResultKey, GlobalTimeoutKey,
+    JunitFlakyFailStatusKey, JunitPathKey, JunitReportNameKey, JunitReportSkippedKey,
+    JunitStoreFailureOutputKey, JunitStoreSuccessOutputKey, LeakTimeoutKey, PriorityKey,
+    RetriesKey, RunExtraArgsKey, SlowTimeoutKey, StatusLevelKey, SuccessOutputKey, TestGroupKey,
+    TestThreadsKey, ThreadsRequiredKey,
+};
 use nextest_config_resolution_scripts::ScriptId;
-use nextest_config_resolution_values::ProfileConfig;
 use nextest_text::{Listing, Text};
-
-/// `retries`.
-pub struct RetriesKey;
 
 impl Setting for RetriesKey {
     type Value = RetryPolicy;
@@ -26,12 +32,9 @@ impl Sets<RetriesKey> for ProfileConfig {
     ghost value = { retries };
 
     fn value(&self) -> Option<&RetryPolicy> {
-        self.test.retries.as_ref()
+        get::<RetriesKey, _, TestKeys, _>(self)
     }
 }
-
-/// `flaky-result`.
-pub struct FlakyResultKey;
 
 impl Setting for FlakyResultKey {
     type Value = FlakyResult;
@@ -43,12 +46,9 @@ impl Sets<FlakyResultKey> for ProfileConfig {
     ghost value = { flaky_result };
 
     fn value(&self) -> Option<&FlakyResult> {
-        self.test.flaky_result.as_ref()
+        get::<FlakyResultKey, _, TestKeys, _>(self)
     }
 }
-
-/// `fail-weight`.
-pub struct FailWeightKey;
 
 impl Setting for FailWeightKey {
     type Value = FailWeight;
@@ -60,12 +60,9 @@ impl Sets<FailWeightKey> for ProfileConfig {
     ghost value = { fail_weight };
 
     fn value(&self) -> Option<&FailWeight> {
-        self.test.fail_weight.as_ref()
+        get::<FailWeightKey, _, TestKeys, _>(self)
     }
 }
-
-/// `leak-timeout`.
-pub struct LeakTimeoutKey;
 
 impl Setting for LeakTimeoutKey {
     type Value = LeakTimeout;
@@ -77,12 +74,9 @@ impl Sets<LeakTimeoutKey> for ProfileConfig {
     ghost value = { leak_timeout };
 
     fn value(&self) -> Option<&LeakTimeout> {
-        self.test.leak_timeout.as_ref()
+        get::<LeakTimeoutKey, _, TestKeys, _>(self)
     }
 }
-
-/// `slow-timeout`.
-pub struct SlowTimeoutKey;
 
 impl Setting for SlowTimeoutKey {
     type Value = SlowTimeout;
@@ -94,12 +88,9 @@ impl Sets<SlowTimeoutKey> for ProfileConfig {
     ghost value = { test_slow_timeout };
 
     fn value(&self) -> Option<&SlowTimeout> {
-        self.test.slow_timeout.as_ref()
+        get::<SlowTimeoutKey, _, TestKeys, _>(self)
     }
 }
-
-/// `threads-required`.
-pub struct ThreadsRequiredKey;
 
 impl Setting for ThreadsRequiredKey {
     type Value = ThreadsRequired;
@@ -111,12 +102,9 @@ impl Sets<ThreadsRequiredKey> for ProfileConfig {
     ghost value = { threads_required };
 
     fn value(&self) -> Option<&ThreadsRequired> {
-        self.test.threads_required.as_ref()
+        get::<ThreadsRequiredKey, _, TestKeys, _>(self)
     }
 }
-
-/// `fail-fast`.
-pub struct FailFastKey;
 
 impl Setting for FailFastKey {
     type Value = MaxFail;
@@ -128,12 +116,9 @@ impl Sets<FailFastKey> for ProfileConfig {
     ghost value = { fail_fast };
 
     fn value(&self) -> Option<&MaxFail> {
-        self.run.fail_fast.as_ref()
+        get::<FailFastKey, _, RunKeys, _>(self)
     }
 }
-
-/// `global-timeout`.
-pub struct GlobalTimeoutKey;
 
 impl Setting for GlobalTimeoutKey {
     type Value = GlobalTimeout;
@@ -145,12 +130,9 @@ impl Sets<GlobalTimeoutKey> for ProfileConfig {
     ghost value = { run_global_timeout };
 
     fn value(&self) -> Option<&GlobalTimeout> {
-        self.run.global_timeout.as_ref()
+        get::<GlobalTimeoutKey, _, RunKeys, _>(self)
     }
 }
-
-/// `test-threads`.
-pub struct TestThreadsKey;
 
 impl Setting for TestThreadsKey {
     type Value = TestThreads;
@@ -162,12 +144,9 @@ impl Sets<TestThreadsKey> for ProfileConfig {
     ghost value = { test_threads };
 
     fn value(&self) -> Option<&TestThreads> {
-        self.run.test_threads.as_ref()
+        get::<TestThreadsKey, _, RunKeys, _>(self)
     }
 }
-
-/// `failure-output`.
-pub struct FailureOutputKey;
 
 impl Setting for FailureOutputKey {
     type Value = TestOutputDisplay;
@@ -179,12 +158,9 @@ impl Sets<FailureOutputKey> for ProfileConfig {
     ghost value = { failure_output };
 
     fn value(&self) -> Option<&TestOutputDisplay> {
-        self.output.failure_output.as_ref()
+        get::<FailureOutputKey, _, OutputKeys, _>(self)
     }
 }
-
-/// `final-status-level`.
-pub struct FinalStatusLevelKey;
 
 impl Setting for FinalStatusLevelKey {
     type Value = FinalStatusLevel;
@@ -196,12 +172,9 @@ impl Sets<FinalStatusLevelKey> for ProfileConfig {
     ghost value = { final_status_level };
 
     fn value(&self) -> Option<&FinalStatusLevel> {
-        self.output.final_status_level.as_ref()
+        get::<FinalStatusLevelKey, _, OutputKeys, _>(self)
     }
 }
-
-/// `status-level`.
-pub struct StatusLevelKey;
 
 impl Setting for StatusLevelKey {
     type Value = StatusLevel;
@@ -213,12 +186,9 @@ impl Sets<StatusLevelKey> for ProfileConfig {
     ghost value = { status_level };
 
     fn value(&self) -> Option<&StatusLevel> {
-        self.output.status_level.as_ref()
+        get::<StatusLevelKey, _, OutputKeys, _>(self)
     }
 }
-
-/// `success-output`.
-pub struct SuccessOutputKey;
 
 impl Setting for SuccessOutputKey {
     type Value = TestOutputDisplay;
@@ -230,12 +200,9 @@ impl Sets<SuccessOutputKey> for ProfileConfig {
     ghost value = { success_output };
 
     fn value(&self) -> Option<&TestOutputDisplay> {
-        self.output.success_output.as_ref()
+        get::<SuccessOutputKey, _, OutputKeys, _>(self)
     }
 }
-
-/// `default-filter`.
-pub struct DefaultFilterKey;
 
 impl Setting for DefaultFilterKey {
     type Value = Text;
@@ -247,12 +214,9 @@ impl Sets<DefaultFilterKey> for ProfileConfig {
     ghost value = { default_filter };
 
     fn value(&self) -> Option<&Text> {
-        self.default_filter.as_ref()
+        get::<DefaultFilterKey, _, OwnKeys, _>(self)
     }
 }
-
-/// `run-extra-args`.
-pub struct RunExtraArgsKey;
 
 impl Setting for RunExtraArgsKey {
     type Value = Listing<Text>;
@@ -264,12 +228,9 @@ impl Sets<RunExtraArgsKey> for ProfileConfig {
     ghost value = { run_extra_args };
 
     fn value(&self) -> Option<&Listing<Text>> {
-        self.run_extra_args.as_ref()
+        get::<RunExtraArgsKey, _, OwnKeys, _>(self)
     }
 }
-
-/// `bench.global-timeout`.
-pub struct BenchGlobalTimeoutKey;
 
 impl Setting for BenchGlobalTimeoutKey {
     type Value = GlobalTimeout;
@@ -281,15 +242,9 @@ impl Sets<BenchGlobalTimeoutKey> for ProfileConfig {
     ghost value = { bench_global_timeout };
 
     fn value(&self) -> Option<&GlobalTimeout> {
-        match &self.bench {
-            Some(bench) => bench.global_timeout.as_ref(),
-            None => None,
-        }
+        get::<BenchGlobalTimeoutKey, _, BenchKeys, _>(self)
     }
 }
-
-/// `bench.slow-timeout`.
-pub struct BenchSlowTimeoutKey;
 
 impl Setting for BenchSlowTimeoutKey {
     type Value = SlowTimeout;
@@ -301,15 +256,9 @@ impl Sets<BenchSlowTimeoutKey> for ProfileConfig {
     ghost value = { bench_slow_timeout };
 
     fn value(&self) -> Option<&SlowTimeout> {
-        match &self.bench {
-            Some(bench) => bench.slow_timeout.as_ref(),
-            None => None,
-        }
+        get::<BenchSlowTimeoutKey, _, BenchKeys, _>(self)
     }
 }
-
-/// `junit.flaky-fail-status`.
-pub struct JunitFlakyFailStatusKey;
 
 impl Setting for JunitFlakyFailStatusKey {
     type Value = JunitFlakyFailStatus;
@@ -321,15 +270,9 @@ impl Sets<JunitFlakyFailStatusKey> for ProfileConfig {
     ghost value = { junit_flaky_fail_status };
 
     fn value(&self) -> Option<&JunitFlakyFailStatus> {
-        match &self.junit {
-            Some(junit) => junit.flaky_fail_status.as_ref(),
-            None => None,
-        }
+        get::<JunitFlakyFailStatusKey, _, JunitKeys, _>(self)
     }
 }
-
-/// `junit.path`.
-pub struct JunitPathKey;
 
 impl Setting for JunitPathKey {
     type Value = Text;
@@ -341,15 +284,9 @@ impl Sets<JunitPathKey> for ProfileConfig {
     ghost value = { junit_path };
 
     fn value(&self) -> Option<&Text> {
-        match &self.junit {
-            Some(junit) => junit.path.as_ref(),
-            None => None,
-        }
+        get::<JunitPathKey, _, JunitKeys, _>(self)
     }
 }
-
-/// `junit.report-name`.
-pub struct JunitReportNameKey;
 
 impl Setting for JunitReportNameKey {
     type Value = Text;
@@ -361,15 +298,9 @@ impl Sets<JunitReportNameKey> for ProfileConfig {
     ghost value = { junit_report_name };
 
     fn value(&self) -> Option<&Text> {
-        match &self.junit {
-            Some(junit) => junit.report_name.as_ref(),
-            None => None,
-        }
+        get::<JunitReportNameKey, _, JunitKeys, _>(self)
     }
 }
-
-/// `junit.report-skipped`.
-pub struct JunitReportSkippedKey;
 
 impl Setting for JunitReportSkippedKey {
     type Value = ReportSkipPolicy;
@@ -381,15 +312,9 @@ impl Sets<JunitReportSkippedKey> for ProfileConfig {
     ghost value = { junit_report_skipped };
 
     fn value(&self) -> Option<&ReportSkipPolicy> {
-        match &self.junit {
-            Some(junit) => junit.report_skipped.as_ref(),
-            None => None,
-        }
+        get::<JunitReportSkippedKey, _, JunitKeys, _>(self)
     }
 }
-
-/// `junit.store-failure-output`.
-pub struct JunitStoreFailureOutputKey;
 
 impl Setting for JunitStoreFailureOutputKey {
     type Value = bool;
@@ -401,15 +326,9 @@ impl Sets<JunitStoreFailureOutputKey> for ProfileConfig {
     ghost value = { junit_store_failure_output };
 
     fn value(&self) -> Option<&bool> {
-        match &self.junit {
-            Some(junit) => junit.store_failure_output.as_ref(),
-            None => None,
-        }
+        get::<JunitStoreFailureOutputKey, _, JunitKeys, _>(self)
     }
 }
-
-/// `junit.store-success-output`.
-pub struct JunitStoreSuccessOutputKey;
 
 impl Setting for JunitStoreSuccessOutputKey {
     type Value = bool;
@@ -421,15 +340,9 @@ impl Sets<JunitStoreSuccessOutputKey> for ProfileConfig {
     ghost value = { junit_store_success_output };
 
     fn value(&self) -> Option<&bool> {
-        match &self.junit {
-            Some(junit) => junit.store_success_output.as_ref(),
-            None => None,
-        }
+        get::<JunitStoreSuccessOutputKey, _, JunitKeys, _>(self)
     }
 }
-
-/// `priority`, which rules alone set.
-pub struct PriorityKey;
 
 impl Setting for PriorityKey {
     type Value = TestPriority;
@@ -444,9 +357,6 @@ impl Sets<PriorityKey> for ProfileConfig {
         None
     }
 }
-
-/// `test-group`, which rules alone set.
-pub struct TestGroupKey;
 
 impl Setting for TestGroupKey {
     type Value = TestGroup;

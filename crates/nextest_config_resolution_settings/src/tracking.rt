@@ -23,9 +23,9 @@ use crate::test_settings::{TestGroupRef, TestSettings};
 use crate::wrappers::wrapper_by;
 use nextest_config_elements_choices::NextestRunMode;
 use nextest_config_elements_values::SlowTimeout;
+use nextest_config_resolution_keys::ProfileConfig;
 use nextest_config_resolution_overrides::PlacedOverride;
 use nextest_config_resolution_scripts::{NamedScript, PlacedScriptRule, WrapperScriptConfig};
-use nextest_config_resolution_values::ProfileConfig;
 use nextest_text::Text;
 
 /// What sets the settings of a test.

@@ -10,7 +10,7 @@ use Rattle.nextest_config_resolution_profiles.specs.Config.{IsChainOf, profiles_
 use Rattle.nextest_config_resolution_profiles.specs.Whole.{Whole}
 use Rattle.nextest_config_resolution_profiles.proofs.OneProfile.{one_chain_of, one_order}
 use Rattle.nextest_config_resolution_profiles.proofs.SameChain.{same_chain, same_order}
-use Rattle.nextest_config_resolution_values.specs.File.{Named}
+use Rattle.nextest_config_resolution_keys.specs.File.{Named}
 use Rattle.nextest_filtering_compiling.specs.Context.{Context}
 use Rattle.nextest_filtering_compiling.specs.declared.filterset.Filterset.{Filterset}
 use Rattle.nextest_filtering_filters.specs.Query.{Test}

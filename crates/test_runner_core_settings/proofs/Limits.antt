@@ -9,7 +9,7 @@ use Rattle.toml.specs.Data.{Data, string, integer, float, boolean, datetime, arr
 use Rattle.nextest_config_elements_choices.specs.declared.max_fail.MaxFail.{MaxFail}
 use Rattle.nextest_config_elements_choices.specs.declared.max_fail.TerminateMode.{TerminateMode}
 use Rattle.nextest_config_elements_choices.specs.declared.max_fail.TerminateMode.TheVariants.{Wait}
-use Rattle.nextest_config_elements_toml.specs.Reading.{Path, Reading, ◌>>=◌, defaulted, leaf, required, under}
+use Rattle.nextest_config_elements_toml.specs.Reading.{Path, Reading, ◌>>=◌, defaulted, leaf, required, some, under}
 use Rattle.nextest_config_elements_choices.specs.MaxFail.{of_fail_fast}
 use Rattle.nextest_config_elements_deserialize.specs.Limits.{fail_fast_in, limit, limit_in, stopped_at, switch_in}
 use Rattle.nextest_config_elements_deserialize.specs.Values.{above_none, truth}
@@ -20,12 +20,13 @@ use Rattle.nextest_config_resolution_profiles.specs.Config.{values_of}
 use Rattle.nextest_config_resolution_settings.specs.Fallbacks as fallback
 use Rattle.nextest_config_resolution_settings.specs.Keys as key
 use Rattle.nextest_config_resolution_settings.specs.Nearest.{IsOfProfiles, Source, of_fallback, of_profile}
-use Rattle.nextest_config_elements_deserialize.specs.Tables.{MayBe, Reads}
 use Rattle.nextest_config_resolution_scripts.specs.Scripts.{scripts_at}
-use Rattle.nextest_config_resolution_values.specs.File.{Named, profiles_at, profiles_in, profiles_of, store_dir_at}
-use Rattle.nextest_config_resolution_values.specs.Profile.{profile_in, profile_of}
-use Rattle.nextest_config_resolution_values.specs.declared.profile_config.ProfileConfig.{ProfileConfig}
-use Rattle.nextest_config_resolution_values.proofs.Accepting.{accepted_profile}
+use Rattle.nextest_config_resolution_keys.specs.Keys.{value_in, value_of}
+use Rattle.nextest_config_resolution_keys.specs.RunKeys.{fail_fast}
+use Rattle.nextest_config_resolution_keys.specs.File.{Named, profiles_at, profiles_in, profiles_of, store_dir_at}
+use Rattle.nextest_config_resolution_keys.specs.Profile.{profile_in, profile_of}
+use Rattle.nextest_config_resolution_keys.specs.declared.profile_config.ProfileConfig.{ProfileConfig}
+use Rattle.nextest_config_resolution_keys.proofs.Read.{reads_each}
 use Rattle.test_runner_core_settings.specs.Laws.{IsOneAtLeast, SetsLimit}
 
 -- ---- what holds of each value that is given
@@ -114,15 +115,24 @@ read_limit (array items) = switch_limit (array items)
 abbrev HasLimit : ProfileConfig → Type 0
 HasLimit config = HoldsIfSome (key.fail_fast config) IsOneAtLeast
 
-may_be : (members : Members) (found : Option MaxFail) → MayBe members (codes "fail-fast") (Reads fail_fast_in) found → HoldsIfSome found IsOneAtLeast
-may_be top None is = tt
-may_be top (Some limit) (given, there, is) = subst (λ (reading : Reading MaxFail). Holds reading IsOneAtLeast) is (read_limit given)
+-- what stands at a key is read so
+value_holds : {A : Type 0} (reading : Data → Reading A) (found : Option Data) (P : A → Type 0) → ((given : Data) → Holds (reading given) P)
+    → Holds (option_map_or (value_in [] reading) found (Ok None)) (λ (x : Option A). HoldsIfSome x P)
+value_holds reading None P each = tt
+value_holds {A} reading (Some given) P each = by_reading (reading given) (each given) where
+  by_reading : (read : Reading A) → Holds read P → Holds (some read) (λ (x : Option A). HoldsIfSome x P)
+  by_reading (Ok x) holds = holds
+  by_reading (Err path) holds = tt
 
 table_has : (members : Members) → Holds (profile_in members) HasLimit
 table_has top = by_reading (profile_in top) refl
   where
+    at_key : Holds (value_of fail_fast top) (λ (x : Option MaxFail). HoldsIfSome x IsOneAtLeast)
+    at_key = under_holds (codes "fail-fast") (option_map_or (value_in [] fail_fast_in) (get_member (codes "fail-fast") top) (Ok None)) (λ (x : Option MaxFail). HoldsIfSome x IsOneAtLeast)
+        (value_holds fail_fast_in (get_member (codes "fail-fast") top) IsOneAtLeast read_limit)
+
     by_reading : (reading : Reading ProfileConfig) → profile_in top ≡ reading → Holds reading HasLimit
-    by_reading (Ok config) e = may_be top config.run.fail_fast ((accepted_profile top config).0 e).fail_fast
+    by_reading (Ok config) e = subst (λ (reading : Reading (Option MaxFail)). Holds reading (λ (x : Option MaxFail). HoldsIfSome x IsOneAtLeast)) (reads_each top config e).fail_fast at_key
     by_reading (Err path) e = tt
 
 profile_has : (given : Data) → Holds (profile_of given) HasLimit

@@ -36,8 +36,8 @@ use Rattle.nextest_config_resolution_settings.specs.declared.test_settings.TestS
 use Rattle.nextest_config_resolution_settings.proofs.Least.{one_least}
 use Rattle.nextest_config_resolution_settings.proofs.Sourced.{one_value, same_settings}
 use Rattle.nextest_config_resolution_settings.proofs.Unique.{one_nearest}
-use Rattle.nextest_config_resolution_values.specs.File.{Named}
-use Rattle.nextest_config_resolution_values.specs.declared.profile_config.ProfileConfig.{ProfileConfig}
+use Rattle.nextest_config_resolution_keys.specs.File.{Named}
+use Rattle.nextest_config_resolution_keys.specs.declared.profile_config.ProfileConfig.{ProfileConfig}
 use Rattle.nextest_config_resolution_overrides.specs.declared.placed_override.PlacedOverride.{PlacedOverride}
 use Rattle.nextest_filtering_filters.specs.Query.{Test}
 use Rattle.nextest_filtering_filters.specs.declared.known_groups.KnownGroups.TheVariants.{Known}

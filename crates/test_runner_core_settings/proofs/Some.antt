@@ -30,8 +30,8 @@ use Rattle.nextest_config_resolution_settings.specs.Nearest.{SetsNone}
 use Rattle.nextest_config_resolution_settings.specs.Rules.{AreHeld, HoldsAndSets, IsLeast, NoneHoldsAndSets}
 use Rattle.nextest_config_resolution_settings.specs.Tracking.{TellsNothing, nothing_kept}
 use Rattle.nextest_config_resolution_settings.proofs.Some as settings
-use Rattle.nextest_config_resolution_values.specs.File.{Named}
-use Rattle.nextest_config_resolution_values.specs.declared.profile_config.ProfileConfig.{ProfileConfig}
+use Rattle.nextest_config_resolution_keys.specs.File.{Named, default_filter_in}
+use Rattle.nextest_config_resolution_keys.specs.declared.profile_config.ProfileConfig.{ProfileConfig}
 use Rattle.nextest_filtering_compiling.specs.Context.{Context}
 use Rattle.nextest_filtering_compiling.specs.FiltersetLaws.{filterset_laws}
 use Rattle.nextest_filtering_compiling.specs.Filtersets.{HasOnTest}
@@ -94,8 +94,8 @@ module _ {R V : Type 0} (holds : R → Bool) (set_by : R → Option V) where
 
 module _ (cx : Context) where
   -- that of a profile which sets one is read
-  read_of : (profiles : List Named) (filters : List (Option Filterset)) → AllZip (λ profile found. IsReadAs (IsFilter cx purpose.Default) profile.1.default_filter found) profiles filters
-      → (name : Name) (value : ProfileConfig) (text : List ℕ) → values_of profiles name ≡ Some value → value.default_filter ≡ Some text → (it : Filterset) × IsDefault cx text it
+  read_of : (profiles : List Named) (filters : List (Option Filterset)) → AllZip (λ profile found. IsReadAs (IsFilter cx purpose.Default) (default_filter_in profile.1) found) profiles filters
+      → (name : Name) (value : ProfileConfig) (text : List ℕ) → values_of profiles name ≡ Some value → default_filter_in value ≡ Some text → (it : Filterset) × IsDefault cx text it
   read_of [] filters zipped name value text there sets = absurd (none-some value there)
   read_of (profile ∷ profiles) [] zipped name value text there sets = absurd zipped
   read_of (profile ∷ profiles) (found ∷ filters) zipped name value text there sets = by_test (bytes_eq name profile.0) there (λ e. read_of profiles filters zipped.1 name value text e sets)
@@ -107,7 +107,7 @@ module _ (cx : Context) where
 
       by_test : (test : Bool) → option_map (λ (it : Named). it.1) (cond test (Some profile) (find (λ (it : Named). bytes_eq name it.0) profiles)) ≡ Some value
           → (values_of profiles name ≡ Some value → (it : Filterset) × IsDefault cx text it) → (it : Filterset) × IsDefault cx text it
-      by_test true e behind = by_found profile.1.default_filter found (ap (λ (p : ProfileConfig). p.default_filter) (same_Some profile.1 value e) ∙ sets) zipped.0
+      by_test true e behind = by_found (default_filter_in profile.1) found (ap default_filter_in (same_Some profile.1 value e) ∙ sets) zipped.0
       by_test false e behind = behind e
 
   -- each of some values is those of a name

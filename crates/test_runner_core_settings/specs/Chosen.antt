@@ -5,7 +5,7 @@ use Rattle.nextest_config_resolution_scripts.specs.declared.script_config.NamedS
 use Rattle.nextest_config_resolution_scripts.specs.declared.script_rule.PlacedScriptRule.{PlacedScriptRule}
 use Rattle.nextest_config_resolution_scripts.specs.declared.wrapper_script.WrapperScriptConfig.{WrapperScriptConfig}
 use Rattle.nextest_config_resolution_settings.specs.Layers.{Layers}
-use Rattle.nextest_config_resolution_values.specs.declared.profile_config.ProfileConfig.{ProfileConfig}
+use Rattle.nextest_config_resolution_keys.specs.declared.profile_config.ProfileConfig.{ProfileConfig}
 
 -- its overrides and its script rules, each in the order in which they are asked; the wrapper
 -- scripts that are defined; and its chain: its own values and those of its parents, and those of

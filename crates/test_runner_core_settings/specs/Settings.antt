@@ -12,7 +12,7 @@ use Rattle.nextest_config_resolution_settings.specs.Rules.{AreHeld}
 use Rattle.nextest_config_resolution_settings.specs.TestSettings.{AreSettings, group_of}
 use Rattle.nextest_config_resolution_settings.specs.Tracking.{TellsNothing}
 use Rattle.nextest_config_resolution_settings.specs.declared.test_settings.TestSettings.{TestSettings}
-use Rattle.nextest_config_resolution_values.specs.declared.profile_config.ProfileConfig.{ProfileConfig}
+use Rattle.nextest_config_resolution_keys.specs.declared.profile_config.ProfileConfig.{ProfileConfig}
 use Rattle.nextest_filtering_compiling.specs.Context.{Context}
 use Rattle.nextest_filtering_filters.specs.Query.{Test}
 use Rattle.nextest_filtering_ast.specs.Tree.{Tree}

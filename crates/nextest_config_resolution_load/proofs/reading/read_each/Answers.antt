@@ -3,7 +3,7 @@ use Rattle.std.specs.Cmp.Lexicographic.{slice_cmp}
 use Rattle.std.specs.List.Sorted.{IsStrictlySortedBy}
 use Rattle.toml.specs.View.{members_view, table_view}
 use Rattle.toml.specs.declared.value.Value.{Value}
-use Rattle.nextest_config_resolution_values.specs.File.{profiles_in}
+use Rattle.nextest_config_resolution_keys.specs.File.{profiles_in}
 use Rattle.nextest_config_resolution_inheritance.specs.Inheritance.{Rise}
 use Rattle.nextest_config_resolution_load.specs.Checks.{parents_of}
 use Rattle.nextest_config_resolution_load.specs.Load.{named_of}

@@ -1,6 +1,6 @@
 use Rattle.std.proofs.Common.{◌≡◌, map}
 use Rattle.toml.specs.View.{members_view}
-use Rattle.nextest_config_resolution_values.specs.File.{profiles_in}
+use Rattle.nextest_config_resolution_keys.specs.File.{profiles_in}
 use Rattle.nextest_config_resolution_load.specs.Load.{named_of}
 use Rattle.nextest_config_resolution_load.proofs.Profiles.{after}
 use Rattle.nextest_config_resolution_load.proofs.reading.read_each.Given as goal

@@ -4,7 +4,7 @@ use Rattle.nextest_config_elements_toml.specs.Reading.{under}
 use Rattle.nextest_config_resolution_load.specs.Load.{named_of}
 use Rattle.nextest_config_resolution_load.specs.Reading.{GivesSeen}
 use Rattle.nextest_config_resolution_load.proofs.reading.read_profiles.Goals as goal
-use Rattle.nextest_config_resolution_values.specs.File.{profiles_of}
+use Rattle.nextest_config_resolution_keys.specs.File.{profiles_of}
 
 pub returns-clause-read : goal.returns-clause-read
 returns-clause-read c top lists =

@@ -1,6 +1,6 @@
 use Rattle.std.proofs.Common.{codes}
 use Rattle.toml.specs.Data.{get_member}
-use Rattle.nextest_config_resolution_values.specs.File.{store_dir_of}
+use Rattle.nextest_config_resolution_keys.specs.File.{store_dir_of}
 use Rattle.nextest_config_resolution_load.proofs.Tops.{read_found}
 use Rattle.nextest_config_resolution_load.proofs.reading.read_store_dir.Goals as goal
 

@@ -1,0 +1,12 @@
+pub mod Keys
+pub mod Rows
+pub mod Listed
+pub mod OwnKeys
+pub mod RunKeys
+pub mod TestKeys
+pub mod OutputKeys
+pub mod BenchKeys
+pub mod JunitKeys
+pub mod RuleKeys
+pub mod Profile
+pub mod File

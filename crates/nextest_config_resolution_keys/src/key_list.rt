@@ -1,0 +1,108 @@
+// Lists of keys.
+ghost use Rattle.std.specs.Prelude.{◌≡◌, []};
+ghost use Rattle.toml.specs.View.{table_view};
+ghost use Rattle.nextest_config_elements_toml.specs.Paths.{GivesAt};
+ghost use Rattle.nextest_config_resolution_keys.specs.Rows.{refusal, refusal_of};
+
+use crate::config_key::{ConfigKey, value_of};
+use crate::joining::joined;
+use nextest_config_elements_toml::ValueError;
+use std::alloc::Global;
+use std::marker::PhantomData;
+use toml::Table;
+
+/// A list of keys: `()`, or a key before others, or two lists. No value of the type is made.
+pub trait KeyList {
+    ghost use Rattle.std.specs.Prelude.{◌≡◌, [], List};
+    ghost use Rattle.toml.specs.Data.{Members};
+    ghost use Rattle.toml.specs.View.{table_view};
+    ghost use Rattle.nextest_config_elements_toml.specs.Paths.{GivesAt};
+    ghost use Rattle.nextest_config_elements_toml.specs.Reading.{Reading};
+    ghost use Rattle.nextest_config_resolution_keys.specs.Rows.{Row, refusal, refusal_of};
+
+    /// The values of all of them, each `None` where its key is left out.
+    type Values: Drop;
+
+    // How a table is read.
+    ghost reading: { Members → Reading Self.Values };
+
+    // The keys without their values.
+    ghost rows: { List Row };
+
+    /// What a table is read as; other keys are read past. An `Err` has the path of the first value,
+    /// by the bytes of the keys, that may not stand there.
+    fn read(alloc: Global, table: &Table) -> Result<Self::Values, ValueError>
+        ensures { GivesAt [] result (reading (table_view table.now)) };
+
+    // It is refused for what its keys refuse it for.
+    ghost refuses: { (given : Members) → refusal_of (reading given) ≡ refusal rows given };
+}
+
+impl KeyList for () {
+    ghost use Rattle.std.specs.Prelude.{[], refl};
+    ghost use Rattle.nextest_config_resolution_keys.specs.Rows.{nothing};
+
+    type Values = ();
+
+    ghost reading = { nothing };
+
+    ghost rows = { [] };
+
+    ghost refuses = { λ given. refl };
+
+    fn read(_alloc: Global, _table: &Table) -> Result<(), ValueError> {
+        Ok(())
+    }
+}
+
+impl<K: ConfigKey, R: KeyList> KeyList for (K, R) {
+    ghost use Rattle.std.specs.Prelude.{◌∷◌};
+    ghost use Rattle.nextest_config_resolution_keys.specs.Keys.{value_of};
+    ghost use Rattle.nextest_config_resolution_keys.specs.Listed.{refuses_both};
+    ghost use Rattle.nextest_config_resolution_keys.specs.Rows.{both, row_of};
+
+    type Values = (Option<K::Value>, R::Values);
+
+    ghost reading = { both (value_of K.key) R.reading };
+
+    ghost rows = { row_of K.key ∷ R.rows };
+
+    ghost refuses = { refuses_both K.key R.reading R.rows R.refuses };
+
+    fn read(alloc: Global, table: &Table) -> Result<(Option<K::Value>, R::Values), ValueError> {
+        joined(value_of::<K>(alloc, table), R::read(alloc, table))
+    }
+}
+
+/// The keys of a list, and those of another.
+pub struct Both<A, B> {
+    first: PhantomData<A>,
+    second: PhantomData<B>,
+}
+
+impl<A: KeyList, B: KeyList> KeyList for Both<A, B> {
+    ghost use Rattle.std.specs.Prelude.{◌++◌};
+    ghost use Rattle.nextest_config_resolution_keys.specs.Listed.{refuses_lists};
+    ghost use Rattle.nextest_config_resolution_keys.specs.Rows.{both};
+
+    type Values = (A::Values, B::Values);
+
+    ghost reading = { both A.reading B.reading };
+
+    ghost rows = { A.rows ++ B.rows };
+
+    ghost refuses = { refuses_lists A.reading B.reading A.rows B.rows A.refuses B.refuses };
+
+    fn read(alloc: Global, table: &Table) -> Result<(A::Values, B::Values), ValueError> {
+        joined(A::read(alloc, table), B::read(alloc, table))
+    }
+}
+
+// What a table is read as by a list of keys, and what it is refused for.
+pub(crate) fn read_keys<S: KeyList>(alloc: Global, table: &Table) -> Result<S::Values, ValueError>
+    ensures read { GivesAt [] result (S.reading (table_view table.now)) }
+    ensures rows { refusal_of (S.reading (table_view table.now))
+        ≡ refusal S.rows (table_view table.now) }
+{
+    S::read(alloc, table)
+}

@@ -1,0 +1,30 @@
+//! What holds of the keys. Each law is the contract of a function that does nothing.
+ghost use Rattle.std.specs.Prelude.{◌≡◌, Ok};
+ghost use Rattle.toml.specs.Data.{Members};
+ghost use Rattle.nextest_config_resolution_keys.specs.Keys.{value_of};
+ghost use Rattle.nextest_config_resolution_keys.specs.Profile.{profile_in, profile_rows};
+ghost use Rattle.nextest_config_resolution_keys.specs.Rows.{refusal, refusal_of};
+
+use crate::config_key::ConfigKey;
+use crate::has_key::HasKey;
+use crate::key_list::KeyList;
+use crate::profile_config::ProfileKeys;
+
+/// A table is refused for what the keys of a list refuse it for.
+pub fn refused_for<S: KeyList>()
+    ensures { (given : Members) → refusal_of (S.reading given) ≡ refusal S.rows given }
+{}
+
+/// A value that was read of a table is what stands there at the path of its key.
+pub fn reads_each<K: ConfigKey, I, S: HasKey<K, I>>()
+    ensures { (given : Members) (values : S.Values) → S.reading given ≡ Ok values
+        → value_of K.key given ≡ Ok (S.value values) }
+{}
+
+/// The table of a profile is refused for what its keys refuse it for.
+pub fn refused_profile()
+    ensures { (given : Members)
+        → refusal_of (profile_in given) ≡ refusal profile_rows given }
+{
+    refused_for::<ProfileKeys>();
+}

@@ -1,0 +1,45 @@
+//! The keys of a configuration: a type for each, with its path, what its value is read as, and how
+//! it is read; lists of such types, by which a table is read once; and profiles, which are read by
+//! several such lists. And the directory of the store.
+#![tactic(auto)]
+
+mod bench;
+mod config_key;
+mod has_key;
+mod joining;
+mod junit;
+mod key_list;
+pub mod laws;
+mod output;
+mod own;
+mod profile_config;
+mod reading;
+mod reads_keys;
+mod rule;
+mod run;
+mod store;
+mod test;
+
+pub use bench::{BenchGlobalTimeoutKey, BenchKeys, BenchSlowTimeoutKey};
+pub use config_key::{ConfigKey, value_of};
+pub use has_key::{HasKey, Here, There};
+pub use junit::{
+    JunitFlakyFailStatusKey, JunitKeys, JunitPathKey, JunitReportNameKey, JunitReportSkippedKey,
+    JunitStoreFailureOutputKey, JunitStoreSuccessOutputKey,
+};
+pub use key_list::{Both, KeyList};
+pub use output::{
+    FailureOutputKey, FinalStatusLevelKey, OutputKeys, StatusLevelKey, SuccessOutputKey,
+};
+pub use own::{DefaultFilterKey, InheritsKey, OwnKeys, RunExtraArgsKey};
+pub use profile_config::{
+    ProfileConfig, ProfileKeys, deserialize_profile, deserialize_profile_value,
+};
+pub use reads_keys::{ReadsKeys, get};
+pub use rule::{PriorityKey, TestGroupKey};
+pub use run::{FailFastKey, GlobalTimeoutKey, RunKeys, TestThreadsKey};
+pub use store::deserialize_store_dir;
+pub use test::{
+    FailWeightKey, FlakyResultKey, LeakTimeoutKey, RetriesKey, SlowTimeoutKey, TestKeys,
+    ThreadsRequiredKey,
+};

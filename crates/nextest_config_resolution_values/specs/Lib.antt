@@ -1,5 +1,0 @@
-pub mod Accepted
-pub mod File
-pub mod Laws
-pub mod Paths
-pub mod Profile
