@@ -4,11 +4,13 @@ pub use nextest_config_resolution_commands::laws::{accepted_command, one_split, 
 pub use nextest_config_resolution_inheritance::laws::{
     no_end, no_fault, one_chain, one_fault, one_verdict,
 };
-pub use nextest_config_resolution_keys::laws::{reads_each, refused_for, refused_profile};
+pub use nextest_config_resolution_keys::laws::{
+    accepted_profile, reads_each, refused_for, refused_profile,
+};
 pub use nextest_config_resolution_load::laws::{
     merged_files, one_load, scripts_are_defined, some_load,
 };
-pub use nextest_config_resolution_overrides::laws::accepted_override;
+pub use nextest_config_resolution_overrides::laws::{accepted_override, refused_override};
 pub use nextest_config_resolution_profiles::laws::{
     accepted as built_in_is_accepted, default_is_read, early_default, group_of_settings,
     kept_profile, more_enable_no_fewer, never_falls_back, no_fallback, no_rules,
@@ -17,7 +19,8 @@ pub use nextest_config_resolution_profiles::laws::{
     written_as as built_in_is_written_as,
 };
 pub use nextest_config_resolution_scripts::laws::{
-    accepted_script_rule, accepted_setup_script, accepted_wrapper_script, named_is_found,
+    accepted_names, accepted_script_rule, accepted_setup_script, accepted_wrapper_script,
+    named_is_found, refused_script_rule,
 };
 pub use nextest_config_resolution_settings::laws::{
     held_rules, least_rule, one_least, one_setting, same_settings,

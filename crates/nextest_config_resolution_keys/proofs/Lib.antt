@@ -1,2 +1,4 @@
 mod Joined
+pub mod Made
+pub mod OneByOne
 pub mod Read

@@ -1,5 +1,5 @@
 -- What the keys of a table that was read have.
-use Rattle.std.proofs.Common.{◌≡◌, ℕ, true, List, [], ◌∷◌, codes, Option, None, Some, Ok, Err, is_some, refl, ap, ◌∙◌, subst, ◌⊎◌, inl, inr}
+use Rattle.std.proofs.Common.{◌≡◌, ◌↔◌, ℕ, true, List, [], ◌∷◌, codes, Option, None, Some, Ok, Err, is_some, refl, ap, subst, ◌⊎◌, inl, inr}
 use Rattle.std.proofs.lemmas.Bool.{false≢true}
 use Rattle.std.specs.Option.{option_map_or}
 use Rattle.toml.specs.Data.{Data, string, integer, float, boolean, datetime, array, table, Members, get_member}
@@ -10,8 +10,9 @@ use Rattle.nextest_config_resolution_keys.specs.Keys.{value_at, value_in, value_
 use Rattle.nextest_config_resolution_keys.specs.Listed.{joined_parts}
 use Rattle.nextest_config_resolution_keys.specs.OutputKeys.{output_in}
 use Rattle.nextest_config_resolution_keys.specs.OwnKeys.{own_in}
-use Rattle.nextest_config_resolution_keys.specs.Profile.{ProfileValues, config_of, made_of, profile_in, values_in}
+use Rattle.nextest_config_resolution_keys.specs.Profile.{IsProfile, ProfileValues, config_of, profile_in, values_in}
 use Rattle.nextest_config_resolution_keys.specs.Rows.{both}
+use Rattle.nextest_config_resolution_keys.proofs.Made.{read_of}
 use Rattle.nextest_config_resolution_keys.specs.RunKeys.{run_in}
 use Rattle.nextest_config_resolution_keys.specs.TestKeys.{test_in}
 use Rattle.nextest_config_resolution_keys.specs.declared.profile_config.ProfileConfig.{ProfileConfig}
@@ -24,16 +25,7 @@ use Rattle.nextest_config_resolution_keys.specs.JunitKeys as junit_key
 
 -- ---- a profile, list by list
 
--- what is read by each of its lists
-pub record IsReadAs (given : Members) (value : ProfileConfig) : Type 0 where
-  pub own : own_in given ≡ Ok value.own
-  pub run : run_in given ≡ Ok value.run
-  pub test : test_in given ≡ Ok value.test
-  pub output : output_in given ≡ Ok value.output
-  pub bench : bench_in given ≡ Ok value.bench
-  pub junit : junit_in given ≡ Ok value.junit
-
-of_values : (given : Members) (values : ProfileValues) → values_in given ≡ Ok values → IsReadAs given (config_of values)
+of_values : (given : Members) (values : ProfileValues) → values_in given ≡ Ok values → IsProfile given (config_of values)
 of_values given values is =
     let halves = joined_parts (both own_in (both run_in test_in) given) (both output_in (both bench_in junit_in) given) values is in
     let first = joined_parts (own_in given) (both run_in test_in given) values.0 halves.0 in
@@ -42,12 +34,16 @@ of_values given values is =
     let back = joined_parts (bench_in given) (junit_in given) values.1.1 second.1 in
     record { own = first.0; run = front.0; test = front.1; output = second.0; bench = back.0; junit = back.1 }
 
-pub profile_parts : (given : Members) (value : ProfileConfig) → profile_in given ≡ Ok value → IsReadAs given value
+pub profile_parts : (given : Members) (value : ProfileConfig) → profile_in given ≡ Ok value → IsProfile given value
 unfolding profile_in
-profile_parts given value e = by_reading (values_in given) refl e where
-  by_reading : (reading : Reading ProfileValues) → values_in given ≡ reading → made_of reading ≡ Ok value → IsReadAs given value
-  by_reading (Ok values) is f = let same : config_of values ≡ value = cc in subst (IsReadAs given) same (of_values given values is)
-  by_reading (Err path) is f = absurd (let g = f in cc)
+profile_parts given value e = let it = read_of config_of (values_in given) value e in subst (IsProfile given) it.is (of_values given it.values it.reads)
+
+profile_made : (given : Members) (value : ProfileConfig) → IsProfile given value → profile_in given ≡ Ok value
+unfolding profile_in
+profile_made given value is = rw (is.own, is.run, is.test, is.output, is.bench, is.junit) refl
+
+pub accepted_profile : (given : Members) (value : ProfileConfig) → (profile_in given ≡ Ok value) ↔ IsProfile given value
+accepted_profile given value = (profile_parts given value, profile_made given value)
 
 -- ---- a key that has something
 

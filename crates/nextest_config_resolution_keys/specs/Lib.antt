@@ -1,5 +1,6 @@
 pub mod Keys
 pub mod Rows
+pub mod Items
 pub mod Listed
 pub mod OwnKeys
 pub mod RunKeys
@@ -7,6 +8,5 @@ pub mod TestKeys
 pub mod OutputKeys
 pub mod BenchKeys
 pub mod JunitKeys
-pub mod RuleKeys
 pub mod Profile
 pub mod File

@@ -1,5 +1,5 @@
 -- What profiles say.
-use Rattle.std.specs.Prelude.{◌++◌, List, Ok, Err}
+use Rattle.std.specs.Prelude.{◌≡◌, ◌++◌, List, Ok}
 use Rattle.toml.specs.Data.{Data, Members}
 use Rattle.nextest_config_elements_deserialize.specs.Keys.{table_by}
 use Rattle.nextest_config_elements_toml.specs.Reading.{Reading}
@@ -7,7 +7,7 @@ use Rattle.nextest_config_resolution_keys.specs.BenchKeys.{BenchValues, bench_in
 use Rattle.nextest_config_resolution_keys.specs.JunitKeys.{JunitValues, junit_in, junit_rows}
 use Rattle.nextest_config_resolution_keys.specs.OutputKeys.{OutputValues, output_in, output_rows}
 use Rattle.nextest_config_resolution_keys.specs.OwnKeys.{OwnValues, own_in, own_rows}
-use Rattle.nextest_config_resolution_keys.specs.Rows.{Row, both}
+use Rattle.nextest_config_resolution_keys.specs.Rows.{Row, both, made_of}
 use Rattle.nextest_config_resolution_keys.specs.RunKeys.{RunValues, run_in, run_rows}
 use Rattle.nextest_config_resolution_keys.specs.TestKeys.{TestValues, test_in, test_rows}
 use Rattle.nextest_config_resolution_keys.specs.declared.profile_config.ProfileConfig.{ProfileConfig}
@@ -27,14 +27,19 @@ values_in = both (both own_in (both run_in test_in)) (both output_in (both bench
 abbrev pub config_of : ProfileValues → ProfileConfig
 config_of it = record { own = it.0.0; run = it.0.1.0; test = it.0.1.1; output = it.1.0; bench = it.1.1.0; junit = it.1.1.1 }
 
-abbrev pub made_of : Reading ProfileValues → Reading ProfileConfig
-made_of (Ok values) = Ok (config_of values)
-made_of (Err path) = Err path
-
 -- a table as a profile: refused for the first place, by the bytes of the keys, at which one of its
 -- keys refuses it
 unfoldable pub profile_in : Members → Reading ProfileConfig
-profile_in given = made_of (values_in given)
+profile_in given = made_of config_of (values_in given)
+
+-- each list of its keys reads a table as its part of a profile
+pub record IsProfile (given : Members) (it : ProfileConfig) : Type 0 where
+  pub own : own_in given ≡ Ok it.own
+  pub run : run_in given ≡ Ok it.run
+  pub test : test_in given ≡ Ok it.test
+  pub output : output_in given ≡ Ok it.output
+  pub bench : bench_in given ≡ Ok it.bench
+  pub junit : junit_in given ≡ Ok it.junit
 
 -- what stands under the name of a profile
 abbrev pub profile_of : Data → Reading ProfileConfig

@@ -36,6 +36,11 @@ both one other given = joined (one given) (other given)
 abbrev pub nothing : Members → Reading (Unit {0})
 nothing given = Ok tt
 
+-- what is made of what a reading gives
+abbrev pub made_of : {A B : Type 0} → (A → B) → Reading A → Reading B
+made_of make (Ok x) = Ok (make x)
+made_of make (Err path) = Err path
+
 -- a key without its values: where it stands, and what it refuses a table for
 pub record Row : Type 0 where
   pub path : Path

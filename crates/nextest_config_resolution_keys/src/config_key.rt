@@ -35,7 +35,7 @@ pub trait ConfigKey {
 /// The value of a key in a table, if one stands there. An `Err` where what stands there, or above
 /// it, may not, or where there was no memory.
 #[tactic(auto, using(nextest_config_elements_deserialize::proofs::Giving::gives_below))]
-pub fn value_of<K: ConfigKey>(alloc: Global, table: &Table) -> Result<Option<K::Value>, ValueError>
+pub fn read_key<K: ConfigKey>(alloc: Global, table: &Table) -> Result<Option<K::Value>, ValueError>
     ensures { GivesAt [] result (value_of K.key (table_view table.now)) }
 {
     let Some((key, rest)) = K::path().split_first() else {

@@ -1,10 +1,5 @@
 // Lists of keys.
-ghost use Rattle.std.specs.Prelude.{◌≡◌, []};
-ghost use Rattle.toml.specs.View.{table_view};
-ghost use Rattle.nextest_config_elements_toml.specs.Paths.{GivesAt};
-ghost use Rattle.nextest_config_resolution_keys.specs.Rows.{refusal, refusal_of};
-
-use crate::config_key::{ConfigKey, value_of};
+use crate::config_key::{ConfigKey, read_key};
 use crate::joining::joined;
 use nextest_config_elements_toml::ValueError;
 use std::alloc::Global;
@@ -70,7 +65,7 @@ impl<K: ConfigKey, R: KeyList> KeyList for (K, R) {
     ghost refuses = { refuses_both K.key R.reading R.rows R.refuses };
 
     fn read(alloc: Global, table: &Table) -> Result<(Option<K::Value>, R::Values), ValueError> {
-        joined(value_of::<K>(alloc, table), R::read(alloc, table))
+        joined(read_key::<K>(alloc, table), R::read(alloc, table))
     }
 }
 
@@ -96,13 +91,4 @@ impl<A: KeyList, B: KeyList> KeyList for Both<A, B> {
     fn read(alloc: Global, table: &Table) -> Result<(A::Values, B::Values), ValueError> {
         joined(A::read(alloc, table), B::read(alloc, table))
     }
-}
-
-// What a table is read as by a list of keys, and what it is refused for.
-pub(crate) fn read_keys<S: KeyList>(alloc: Global, table: &Table) -> Result<S::Values, ValueError>
-    ensures read { GivesAt [] result (S.reading (table_view table.now)) }
-    ensures rows { refusal_of (S.reading (table_view table.now))
-        ≡ refusal S.rows (table_view table.now) }
-{
-    S::read(alloc, table)
 }

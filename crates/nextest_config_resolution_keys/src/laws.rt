@@ -1,8 +1,9 @@
 //! What holds of the keys. Each law is the contract of a function that does nothing.
-ghost use Rattle.std.specs.Prelude.{◌≡◌, Ok};
+ghost use Rattle.std.specs.Prelude.{◌≡◌, ◌↔◌, Ok};
 ghost use Rattle.toml.specs.Data.{Members};
 ghost use Rattle.nextest_config_resolution_keys.specs.Keys.{value_of};
-ghost use Rattle.nextest_config_resolution_keys.specs.Profile.{profile_in, profile_rows};
+ghost use Rattle.nextest_config_resolution_keys.specs.Profile.{IsProfile, profile_in, profile_rows};
+ghost use Rattle.nextest_config_resolution_keys.specs.declared.profile_config.ProfileConfig.{ProfileConfig};
 ghost use Rattle.nextest_config_resolution_keys.specs.Rows.{refusal, refusal_of};
 
 use crate::config_key::ConfigKey;
@@ -19,6 +20,12 @@ pub fn refused_for<S: KeyList>()
 pub fn reads_each<K: ConfigKey, I, S: HasKey<K, I>>()
     ensures { (given : Members) (values : S.Values) → S.reading given ≡ Ok values
         → value_of K.key given ≡ Ok (S.value values) }
+{}
+
+/// A table is read as a profile exactly if each list of a profile's keys reads it as its part.
+pub fn accepted_profile()
+    ensures { (given : Members) (it : ProfileConfig)
+        → (profile_in given ≡ Ok it) ↔ IsProfile given it }
 {}
 
 /// The table of a profile is refused for what its keys refuse it for.

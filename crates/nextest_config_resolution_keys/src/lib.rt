@@ -5,7 +5,9 @@
 
 mod bench;
 mod config_key;
+mod from_keys;
 mod has_key;
+mod items;
 mod joining;
 mod junit;
 mod key_list;
@@ -15,14 +17,15 @@ mod own;
 mod profile_config;
 mod reading;
 mod reads_keys;
-mod rule;
 mod run;
 mod store;
 mod test;
 
 pub use bench::{BenchGlobalTimeoutKey, BenchKeys, BenchSlowTimeoutKey};
-pub use config_key::{ConfigKey, value_of};
+pub use config_key::{ConfigKey, read_key};
+pub use from_keys::{FromKeys, deserialize_table};
 pub use has_key::{HasKey, Here, There};
+pub use items::deserialize_items;
 pub use junit::{
     JunitFlakyFailStatusKey, JunitKeys, JunitPathKey, JunitReportNameKey, JunitReportSkippedKey,
     JunitStoreFailureOutputKey, JunitStoreSuccessOutputKey,
@@ -35,8 +38,8 @@ pub use own::{DefaultFilterKey, InheritsKey, OwnKeys, RunExtraArgsKey};
 pub use profile_config::{
     ProfileConfig, ProfileKeys, deserialize_profile, deserialize_profile_value,
 };
-pub use reads_keys::{ReadsKeys, get};
-pub use rule::{PriorityKey, TestGroupKey};
+pub use reading::read_text;
+pub use reads_keys::{ReadsKeys, get_value};
 pub use run::{FailFastKey, GlobalTimeoutKey, RunKeys, TestThreadsKey};
 pub use store::deserialize_store_dir;
 pub use test::{

@@ -5,14 +5,14 @@ ghost use Rattle.nextest_config_elements_toml.specs.Paths.{GivesAt};
 ghost use Rattle.nextest_config_resolution_keys.specs.Profile.{profile_in, profile_of};
 
 use crate::bench::BenchKeys;
+use crate::from_keys::{FromKeys, deserialize_table};
 use crate::junit::JunitKeys;
-use crate::key_list::{Both, KeyList, read_keys};
+use crate::key_list::{Both, KeyList};
 use crate::output::OutputKeys;
 use crate::own::OwnKeys;
 use crate::reads_keys::ReadsKeys;
 use crate::run::RunKeys;
 use crate::test::TestKeys;
-use nextest_config_elements_deserialize::below;
 use nextest_config_elements_toml::{ValueError, refused};
 use std::alloc::Global;
 use toml::{Table, Value};
@@ -101,9 +101,28 @@ impl ReadsKeys<JunitKeys> for ProfileConfig {
     }
 }
 
+impl FromKeys<ProfileKeys> for ProfileConfig {
+    ghost use Rattle.nextest_config_resolution_keys.specs.Profile.{config_of};
+
+    ghost made = { config_of };
+
+    fn from_values(values: <ProfileKeys as KeyList>::Values) -> ProfileConfig {
+        let ((own, (run, test)), (output, (bench, junit))) = values;
+        ProfileConfig {
+            own,
+            run,
+            test,
+            output,
+            bench,
+            junit,
+        }
+    }
+}
+
 /// What the table of a profile says, which stands at `profile` and its name. Every key may be left
 /// out, and other keys are read past. An `Err` has the path of the first value, by the bytes of the
 /// keys, that may not stand there.
+#[tactic(auto, unfolding(crate::specs::Profile::profile_in))]
 pub fn deserialize_profile(
     alloc: Global,
     name: &str,
@@ -111,20 +130,7 @@ pub fn deserialize_profile(
 ) -> Result<ProfileConfig, ValueError>
     ensures { GivesAt (profile_path name.now) result (profile_in (table_view table.now)) }
 {
-    match read_keys::<ProfileKeys>(alloc, table) {
-        Ok(values) => {
-            let ((own, (run, test)), (output, (bench, junit))) = values;
-            Ok(ProfileConfig {
-                own,
-                run,
-                test,
-                output,
-                bench,
-                junit,
-            })
-        }
-        Err(error) => Err(below(alloc, &["profile"], name, error)),
-    }
+    deserialize_table::<ProfileKeys, ProfileConfig>(alloc, table, &["profile", name])
 }
 
 /// What stands under the name of a profile: a table, which is read as `deserialize_profile` does.

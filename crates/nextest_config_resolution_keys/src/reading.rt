@@ -10,8 +10,8 @@ use nextest_text::Text;
 use std::alloc::Global;
 use toml::Value;
 
-// A text.
-pub(crate) fn read_text(alloc: Global, value: &Value) -> Result<Text, ValueError>
+/// A text that stands somewhere. An `Err` for everything else, with no path in front.
+pub fn read_text(alloc: Global, value: &Value) -> Result<Text, ValueError>
     ensures { GivesAt [] result (leaf as_str (view value.now)) }
 {
     match value {

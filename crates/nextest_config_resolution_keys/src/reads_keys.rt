@@ -18,7 +18,7 @@ pub trait ReadsKeys<S: KeyList> {
 }
 
 /// The value that was read for a key, lent; `None` where it is left out.
-pub fn get<'c, K: ConfigKey, I, S: HasKey<K, I>, L: ReadsKeys<S>>(
+pub fn get_value<'c, K: ConfigKey, I, S: HasKey<K, I>, L: ReadsKeys<S>>(
     layer: &'c L,
 ) -> Option<&'c K::Value>
 where

@@ -1,5 +1,5 @@
 -- What calls of this crate give on their way to a configuration.
-use Rattle.std.specs.Prelude.{◌≡◌, ℕ, Bool, not, List, [], ◌++◌, codes, get_or, map, reverse, filter_map, Option, None, Some, Result, Ok, Err, ⊤}
+use Rattle.std.specs.Prelude.{◌≡◌, ℕ, Bool, not, List, [], ◌++◌, codes, map, reverse, filter_map, Option, None, Some, Result, Ok, Err, ⊤}
 use Rattle.std.specs.BTreeSet.{BTreeSet, contains_by}
 use Rattle.std.specs.Cmp.Lexicographic.{slice_cmp}
 use Rattle.std.specs.List.{AllZip, flat_map}
@@ -30,7 +30,6 @@ use Rattle.nextest_config_resolution_sources.specs.Counting.{counting_sources}
 use Rattle.nextest_config_resolution_sources.specs.declared.source.ConfigSource.{ConfigSource}
 use Rattle.nextest_config_resolution_keys.specs.File.{Named, default_filter_in}
 use Rattle.nextest_config_resolution_keys.specs.Profile.{profile_of}
-use Rattle.nextest_config_resolution_keys.specs.declared.profile_config.ProfileConfig.{ProfileConfig}
 
 -- a call gives what reading gives, seen as such; want of memory says nothing
 abbrev pub GivesSeen : {A B : Type 0} → (A → B) → Result A ValueError → Reading B → Type 0
@@ -78,14 +77,6 @@ abbrev pub scripts_of : {F S : Type 0} → List (SourceRules F S) → List (List
 scripts_of all = map (λ own. own.scripts) all
 
 -- ---- a file
-
--- the key of a profile's table below which a value stands
-abbrev pub third : Path → List ℕ
-third keys = get_or keys 2 []
-
--- the values of a profile are refused at a path
-abbrev pub refused_values : Path → Reading ProfileConfig
-refused_values path = Err path
 
 -- a call parses the text of a file, or it is no TOML; want of memory says nothing
 abbrev pub ParsesText : {T : Type 0} → (T → Members) → List ℕ → Option Members → Result T LoadError → Type 0

@@ -1,9 +1,37 @@
 // What a file says, whatever stands in others.
-use nextest_config_resolution_overrides::{NamedGroup, OverrideConfig};
+use nextest_config_resolution_keys::{Both, FromKeys, KeyList, ProfileKeys};
+use nextest_config_resolution_overrides::{NamedGroup, OverrideConfig, OverridesKey};
 use nextest_config_resolution_scripts::{
-    NamedScript, ScriptConfig, ScriptRuleConfig, SetupScriptConfig,
+    NamedScript, ScriptConfig, ScriptRuleConfig, ScriptRulesKey, SetupScriptConfig,
 };
 use nextest_text::{Listing, Text};
+use std::alloc::Global;
+
+/// The keys of a profile's table in a file: those of the profile, and its rules.
+pub type ProfileTableKeys = Both<ProfileKeys, (OverridesKey, (ScriptRulesKey, ()))>;
+
+/// The rules of a profile, as its table has them.
+#[derive(Drop)]
+pub struct TableRules {
+    /// Its overrides, in their order.
+    pub overrides: Listing<OverrideConfig>,
+    /// Its script rules, in their order.
+    pub scripts: Listing<ScriptRuleConfig>,
+}
+
+impl FromKeys<ProfileTableKeys> for TableRules {
+    ghost use Rattle.nextest_config_resolution_load.specs.File.{rules_with};
+
+    ghost made = { rules_with };
+
+    fn from_values(values: <ProfileTableKeys as KeyList>::Values) -> TableRules {
+        let (_, (overrides, (scripts, ()))) = values;
+        TableRules {
+            overrides: overrides.unwrap_or(Listing::new(Global)),
+            scripts: scripts.unwrap_or(Listing::new(Global)),
+        }
+    }
+}
 
 /// The rules of a profile in a file.
 #[derive(Drop)]

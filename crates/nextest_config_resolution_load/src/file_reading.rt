@@ -1,33 +1,25 @@
 // How a file is read, key by key.
-ghost use Rattle.std.specs.Prelude.{◌≡◌, ◌++◌, [], ◌∷◌, codes};
-ghost use Rattle.std.specs.Cmp.Lexicographic.{slice_cmp};
-ghost use Rattle.std.specs.Ordering.{match_ordering, nat_cmp};
+ghost use Rattle.std.specs.Prelude.{[], ◌∷◌, codes};
 ghost use Rattle.toml.specs.View.{table_view, view};
 ghost use Rattle.nextest_config_elements_toml.specs.Paths.{Gives, GivesAt};
-ghost use Rattle.nextest_config_elements_toml.specs.Reading.{Path};
-ghost use Rattle.nextest_config_resolution_load.specs.Reading.{refused_values, third};
 ghost use Rattle.nextest_config_elements_deserialize.specs.Keys.{table_by};
 ghost use Rattle.nextest_config_elements_deserialize.specs.Paths.{profile_path};
 ghost use Rattle.nextest_config_elements_versions.specs.Demand as demand;
-ghost use Rattle.nextest_config_resolution_load.specs.File.{by_keys, check_of, file_in, profiles_at_file, profiles_in_file, rules_in_profile, rules_in_table, rules_of_profile};
+ghost use Rattle.nextest_config_resolution_load.specs.File.{check_of, file_in, profiles_at_file, profiles_in_file, rules_in_profile, rules_of_profile};
 ghost use Rattle.nextest_config_resolution_overrides.specs.Groups.{groups_at};
 ghost use Rattle.nextest_config_resolution_scripts.specs.Scripts.{old_scripts_at, scripts_at};
 ghost use Rattle.nextest_config_resolution_keys.specs.File.{store_dir_at};
 
-use crate::file_config::{FileConfig, ProfileRules};
-use nextest_config_elements_toml::{BadValue, ValueError, member, refused};
+use crate::file_config::{FileConfig, ProfileRules, ProfileTableKeys, TableRules};
+use nextest_config_elements_toml::{ValueError, member, refused};
 use nextest_config_elements_versions::{deserialize_experimental, deserialize_nextest_version};
-use nextest_config_resolution_keys::{deserialize_profile, deserialize_store_dir};
-use nextest_config_resolution_overrides::{
-    NamedGroup, OverrideConfig, deserialize_overrides, deserialize_test_groups,
-};
+use nextest_config_resolution_keys::{deserialize_store_dir, deserialize_table};
+use nextest_config_resolution_overrides::{NamedGroup, deserialize_test_groups};
 use nextest_config_resolution_scripts::{
-    NamedScript, ScriptConfig, ScriptRuleConfig, SetupScriptConfig, deserialize_old_scripts,
-    deserialize_script_rules, deserialize_scripts,
+    NamedScript, ScriptConfig, SetupScriptConfig, deserialize_old_scripts, deserialize_scripts,
 };
 use nextest_text::{Listing, Text};
 use std::alloc::Global;
-use std::cmp::Ordering;
 use toml::{Table, Value};
 
 // What a file says, of which each value must be one that its key may have; other keys are read
@@ -130,82 +122,24 @@ fn read_each(alloc: Global, profiles: &Table) -> Result<Listing<ProfileRules>, V
 fn read_profile(alloc: Global, name: &str, given: &Value) -> Result<ProfileRules, ValueError>
     ensures { GivesAt (profile_path name.now) result (rules_of_profile name.now (view given.now)) }
 {
-    let (overrides, scripts) = read_value(alloc, name, given)?;
+    let rules = read_rules(alloc, name, given)?;
     Ok(ProfileRules {
         profile: Text::from_str(alloc, name)?,
-        overrides,
-        scripts,
+        overrides: rules.overrides,
+        scripts: rules.scripts,
     })
 }
 
 // What stands under the name of a profile: a table.
-fn read_value(alloc: Global, name: &str, given: &Value) -> Result<TableRules, ValueError>
+#[tactic(auto, unfolding(crate::specs::File::rules_in_profile))]
+fn read_rules(alloc: Global, name: &str, given: &Value) -> Result<TableRules, ValueError>
     ensures { GivesAt (profile_path name.now) result (table_by rules_in_profile (view given.now)) }
 {
+    let path = ["profile", name];
     match given {
-        Value::Table(table) => read_table(alloc, name, table),
-        _ => Err(refused(alloc, &["profile", name], Some(given), "a table")),
-    }
-}
-
-// The rules of a profile whose values can stand at their keys, or what is refused first.
-fn read_table(alloc: Global, name: &str, table: &Table) -> Result<TableRules, ValueError>
-    ensures { GivesAt (profile_path name.now) result (rules_in_profile (table_view table.now)) }
-{
-    match deserialize_profile(alloc, name, table) {
-        Ok(_) => rules_in_table(alloc, name, table),
-        Err(ValueError::Refused(value)) => refused_in(alloc, name, table, value),
-        Err(ValueError::OutOfMemory) => Err(ValueError::OutOfMemory),
-    }
-}
-
-// The rules of a profile.
-type TableRules = (Listing<OverrideConfig>, Listing<ScriptRuleConfig>);
-
-// The overrides and the script rules of a profile.
-fn rules_in_table(alloc: Global, name: &str, table: &Table) -> Result<TableRules, ValueError>
-    ensures { GivesAt (profile_path name.now) result (rules_in_table (table_view table.now)) }
-{
-    let overrides = deserialize_overrides(alloc, name, table)?;
-    let scripts = deserialize_script_rules(alloc, name, table)?;
-    Ok((overrides, scripts))
-}
-
-// What is refused first of a profile, of which this value is refused.
-fn refused_in(
-    alloc: Global,
-    name: &str,
-    table: &Table,
-    value: BadValue,
-) -> Result<TableRules, ValueError>
-    ensures { (path : Path)
-        → value.path.keys ≡ profile_path name.now ++ path → GivesAt (profile_path name.now) result
-        (by_keys (refused_values path) (rules_in_table (table_view table.now))) }
-{
-    match rules_in_table(alloc, name, table) {
-        Ok(_) => Err(ValueError::Refused(value)),
-        Err(ValueError::Refused(other)) => Err(ValueError::Refused(first_of(value, other))),
-        Err(ValueError::OutOfMemory) => Err(ValueError::OutOfMemory),
-    }
-}
-
-// Of two values that are refused in one profile the one whose key stands first, by its bytes.
-fn first_of(value: BadValue, other: BadValue) -> BadValue
-    ensures { result.path.keys ≡ match_ordering (slice_cmp nat_cmp (third value.path.keys)
-        (third other.path.keys)) value.path.keys value.path.keys other.path.keys }
-{
-    match third(&value).cmp(third(&other)) {
-        Ordering::Less | Ordering::Equal => value,
-        Ordering::Greater => other,
-    }
-}
-
-// The key in a profile's table below which a value stands.
-fn third(value: &BadValue) -> &str
-    ensures { result.now ≡ third value.now.path.keys }
-{
-    match value.path.keys.as_slice().get(2) {
-        Some(key) => key.as_str(),
-        None => "",
+        Value::Table(table) => {
+            deserialize_table::<ProfileTableKeys, TableRules>(alloc, table, &path)
+        }
+        _ => Err(refused(alloc, &path, Some(given), "a table")),
     }
 }

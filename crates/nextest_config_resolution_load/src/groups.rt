@@ -12,7 +12,8 @@ use crate::named::names_of;
 use crate::placed_file::SourceRules;
 use crate::refusing::unknown_group;
 use nextest_config_elements_identifiers::TestGroup;
-use nextest_config_resolution_overrides::{NamedGroup, OverrideId};
+use nextest_config_resolution_keys::get_value;
+use nextest_config_resolution_overrides::{NamedGroup, OverrideId, RuleKeys, TestGroupKey};
 use std::alloc::Global;
 use std::collections::BTreeSet;
 
@@ -51,7 +52,7 @@ fn check_own<R: Languages>(
             cx,
             names,
             &rule.placed.id,
-            &rule.placed.config.test_group,
+            get_value::<TestGroupKey, _, RuleKeys, _>(&rule.placed.config),
         )?;
     }
     Ok(())
@@ -63,10 +64,10 @@ fn check_group<R: Languages>(
     cx: &R::Cx,
     names: &BTreeSet<&str>,
     id: &OverrideId,
-    group: &Option<TestGroup>,
+    group: Option<&TestGroup>,
 ) -> Result<(), LoadError>
     ensures { Passes (R.is_filter cx.now) R.is_spec R.is_too_deep
-        (group_checks_of (has_name names.now) id.now group.now) (λ _. ⊤) result }
+        (group_checks_of (has_name names.now) id.now (option_copied group)) (λ _. ⊤) result }
 {
     match group {
         None | Some(TestGroup::Global) => Ok(()),

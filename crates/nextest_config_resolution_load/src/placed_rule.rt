@@ -7,7 +7,10 @@ ghost use Rattle.nextest_config_resolution_load.specs.Rules as words;
 ghost use Rattle.nextest_config_resolution_load.specs.declared.rule_id.RuleId.{RuleId};
 
 use crate::rule_id::RuleRef;
-use nextest_config_resolution_overrides::{OverridePlatforms, PlacedOverride};
+use nextest_config_resolution_keys::{DefaultFilterKey, get_value};
+use nextest_config_resolution_overrides::{
+    ConditionKeys, FilterKey, OverridePlatforms, PlacedOverride, PlatformKey, RuleKeys,
+};
 use nextest_config_resolution_scripts::PlacedScriptRule;
 use nextest_text::Text;
 
@@ -54,10 +57,10 @@ impl PlacedRule for PlacedOverride {
 
     fn texts(&self) -> RuleTexts<'_> {
         RuleTexts {
-            host: host_in(&self.config.platform),
-            target: target_in(&self.config.platform),
-            filter: self.config.filter.as_ref(),
-            default_filter: self.config.default_filter.as_ref(),
+            host: host_in(get_value::<PlatformKey, _, ConditionKeys, _>(&self.config)),
+            target: target_in(get_value::<PlatformKey, _, ConditionKeys, _>(&self.config)),
+            filter: get_value::<FilterKey, _, ConditionKeys, _>(&self.config),
+            default_filter: get_value::<DefaultFilterKey, _, RuleKeys, _>(&self.config),
         }
     }
 
@@ -82,8 +85,8 @@ impl PlacedRule for PlacedScriptRule {
 
     fn texts(&self) -> RuleTexts<'_> {
         RuleTexts {
-            host: host_in(&self.config.platform),
-            target: target_in(&self.config.platform),
+            host: host_in(self.config.platform.as_ref()),
+            target: target_in(self.config.platform.as_ref()),
             filter: self.config.filter.as_ref(),
             default_filter: None,
         }
@@ -99,8 +102,8 @@ impl PlacedRule for PlacedScriptRule {
 }
 
 // The spec of the platform on which tests are built and run.
-fn host_in(platform: &Option<OverridePlatforms>) -> Option<&Text>
-    ensures { option_copied result ≡ words.host_in platform.now }
+fn host_in(platform: Option<&OverridePlatforms>) -> Option<&Text>
+    ensures { option_copied result ≡ words.host_in (option_copied platform) }
 {
     match platform {
         Some(platforms) => platforms.host.as_ref(),
@@ -109,8 +112,8 @@ fn host_in(platform: &Option<OverridePlatforms>) -> Option<&Text>
 }
 
 // The spec of the platform for which they are built.
-fn target_in(platform: &Option<OverridePlatforms>) -> Option<&Text>
-    ensures { option_copied result ≡ words.target_in platform.now }
+fn target_in(platform: Option<&OverridePlatforms>) -> Option<&Text>
+    ensures { option_copied result ≡ words.target_in (option_copied platform) }
 {
     match platform {
         Some(platforms) => platforms.target.as_ref(),

@@ -1,5 +1,2 @@
-pub mod Accepting
-pub mod Below
-pub mod KeyLaws
-pub mod Listed
-pub mod TableLaws
+mod Accepting
+mod Grouped

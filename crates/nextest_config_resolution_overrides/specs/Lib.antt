@@ -1,5 +1,6 @@
-pub mod Accepted
+pub mod ConditionKeys
 pub mod Groups
-pub mod Laws
 pub mod Overrides
-pub mod Paths
+pub mod Platforms
+pub mod ReportKeys
+pub mod RuleKeys

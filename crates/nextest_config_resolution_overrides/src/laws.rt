@@ -1,9 +1,24 @@
 //! What holds of every override that is read. Each law is the contract of a function that does
 //! nothing.
-ghost use Rattle.nextest_config_resolution_overrides.specs.Laws.{AcceptedOverride};
+ghost use Rattle.std.specs.Prelude.{◌≡◌, ◌↔◌, Ok};
+ghost use Rattle.toml.specs.Data.{Members};
+ghost use Rattle.nextest_config_resolution_keys.specs.Rows.{refusal, refusal_of};
+ghost use Rattle.nextest_config_resolution_overrides.specs.Overrides.{IsOverride, override_in, override_rows};
+ghost use Rattle.nextest_config_resolution_overrides.specs.declared.override_config.OverrideConfig.{OverrideConfig};
 
-/// A table is read as an override exactly if it is that override by what stands under its keys, in
-/// whatever order they are looked at.
+use crate::override_config::OverrideKeys;
+use nextest_config_resolution_keys::laws::refused_for;
+
+/// A table is read as an override exactly if each list of an override's keys reads it as its part.
 pub fn accepted_override()
-    ensures { AcceptedOverride }
+    ensures { (given : Members) (it : OverrideConfig)
+        → (override_in given ≡ Ok it) ↔ IsOverride given it }
 {}
+
+/// The table of an override is refused for what its keys refuse it for.
+pub fn refused_override()
+    ensures { (given : Members)
+        → refusal_of (override_in given) ≡ refusal override_rows given }
+{
+    refused_for::<OverrideKeys>();
+}

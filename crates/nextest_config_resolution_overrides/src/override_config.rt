@@ -1,70 +1,108 @@
-// The values of an override.
-use crate::junit::OverrideJunit;
-use crate::platforms::OverridePlatforms;
-use nextest_config_elements_choices::{FailWeight, FlakyResult, TestOutputDisplay};
-use nextest_config_elements_identifiers::TestGroup;
-use nextest_config_elements_values::{
-    LeakTimeout, RetryPolicy, SlowTimeout, TestPriority, ThreadsRequired,
-};
-use nextest_text::{Listing, Text};
+// What an override says.
+ghost use Rattle.nextest_config_elements_deserialize.specs.Keys.{table_by};
+ghost use Rattle.nextest_config_resolution_overrides.specs.Overrides.{override_in};
 
-/// The values of an override, as its table has them: on which tests it holds, and what is set for
-/// these. Each is `None` where its key is left out.
+use crate::condition::ConditionKeys;
+use crate::report::ReportKeys;
+use crate::rule::RuleKeys;
+use nextest_config_elements_deserialize::DeserializeValue;
+use nextest_config_elements_toml::{ValueError, refused};
+use nextest_config_resolution_keys::{
+    Both, FromKeys, KeyList, ReadsKeys, TestKeys, deserialize_table,
+};
+use std::alloc::Global;
+use toml::Value;
+
+/// The keys of an override, by what they tell of.
+pub type OverrideKeys = Both<Both<ConditionKeys, RuleKeys>, Both<TestKeys, ReportKeys>>;
+
+/// The values of an override's keys, as its table has them. Each is `None` where its key is left
+/// out.
 pub struct OverrideConfig {
-    /// `bench.slow-timeout`: when a benchmark is slow, and when it is ended for that.
-    pub bench_slow_timeout: Option<SlowTimeout>,
-    /// `default-filter`: the filterset of the tests that are run where none is asked for.
-    pub default_filter: Option<Text>,
-    /// `fail-weight`: how much a test weighs where it fails.
-    pub fail_weight: Option<FailWeight>,
-    /// `failure-output`: when the output of a test is shown that fails.
-    pub failure_output: Option<TestOutputDisplay>,
-    /// `filter`: the filterset of the tests on which the override holds.
-    pub filter: Option<Text>,
-    /// `flaky-result`: what becomes of a test where it passes on a later attempt than its first.
-    pub flaky_result: Option<FlakyResult>,
-    /// `junit`: what the report in JUnit's form says of a test.
-    pub junit: Option<OverrideJunit>,
-    /// `leak-timeout`: how long handles may stay open behind a test.
-    pub leak_timeout: Option<LeakTimeout>,
-    /// `platform`: the platforms on which the override holds.
-    pub platform: Option<OverridePlatforms>,
-    /// `priority`: in which order tests run.
-    pub priority: Option<TestPriority>,
-    /// `retries`: how a test is tried again.
-    pub retries: Option<RetryPolicy>,
-    /// `run-extra-args`: the arguments that a test is run with besides.
-    pub run_extra_args: Option<Listing<Text>>,
-    /// `slow-timeout`: when a test is slow, and when it is ended for that.
-    pub slow_timeout: Option<SlowTimeout>,
-    /// `success-output`: when the output of a test is shown that passes.
-    pub success_output: Option<TestOutputDisplay>,
-    /// `test-group`: the group of a test.
-    pub test_group: Option<TestGroup>,
-    /// `threads-required`: how many threads a test takes.
-    pub threads_required: Option<ThreadsRequired>,
+    /// On which platforms and tests it holds.
+    pub condition: <ConditionKeys as KeyList>::Values,
+    /// In which order, group and run a test stands.
+    pub rule: <RuleKeys as KeyList>::Values,
+    /// How a test is run.
+    pub test: <TestKeys as KeyList>::Values,
+    /// How a test is shown and reported.
+    pub report: <ReportKeys as KeyList>::Values,
 }
 
 // One call drops it, whoever holds it.
 impl Drop for OverrideConfig {
     fn drop(self) {
         let Self {
-            bench_slow_timeout: _,
-            default_filter: _,
-            fail_weight: _,
-            failure_output: _,
-            filter: _,
-            flaky_result: _,
-            junit: _,
-            leak_timeout: _,
-            platform: _,
-            priority: _,
-            retries: _,
-            run_extra_args: _,
-            slow_timeout: _,
-            success_output: _,
-            test_group: _,
-            threads_required: _,
+            condition: _,
+            rule: _,
+            test: _,
+            report: _,
         } = self;
+    }
+}
+
+impl ReadsKeys<ConditionKeys> for OverrideConfig {
+    ghost values = { λ it. it.condition };
+
+    fn values(&self) -> &<ConditionKeys as KeyList>::Values {
+        &self.condition
+    }
+}
+
+impl ReadsKeys<RuleKeys> for OverrideConfig {
+    ghost values = { λ it. it.rule };
+
+    fn values(&self) -> &<RuleKeys as KeyList>::Values {
+        &self.rule
+    }
+}
+
+impl ReadsKeys<TestKeys> for OverrideConfig {
+    ghost values = { λ it. it.test };
+
+    fn values(&self) -> &<TestKeys as KeyList>::Values {
+        &self.test
+    }
+}
+
+impl ReadsKeys<ReportKeys> for OverrideConfig {
+    ghost values = { λ it. it.report };
+
+    fn values(&self) -> &<ReportKeys as KeyList>::Values {
+        &self.report
+    }
+}
+
+impl FromKeys<OverrideKeys> for OverrideConfig {
+    ghost use Rattle.nextest_config_resolution_overrides.specs.Overrides.{config_of};
+
+    ghost made = { config_of };
+
+    fn from_values(values: <OverrideKeys as KeyList>::Values) -> OverrideConfig {
+        let ((condition, rule), (test, report)) = values;
+        OverrideConfig {
+            condition,
+            rule,
+            test,
+            report,
+        }
+    }
+}
+
+impl DeserializeValue for OverrideConfig {
+    ghost reading = { table_by override_in };
+
+    #[tactic(auto, unfolding(crate::specs::Overrides::override_in))]
+    fn deserialize(
+        alloc: Global,
+        value: &Value,
+        path: &[&str],
+    ) -> Result<OverrideConfig, ValueError> {
+        match value {
+            Value::Table(table) => {
+                deserialize_table::<OverrideKeys, OverrideConfig>(alloc, table, path)
+            }
+            _ => Err(refused(alloc, path, Some(value), "a table")),
+        }
     }
 }

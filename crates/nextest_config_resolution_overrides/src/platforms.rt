@@ -1,17 +1,54 @@
-// The platforms on which an override holds.
-ghost use Rattle.std.specs.Prelude.{◌≡◌};
-ghost use Rattle.toml.specs.View.{table_view, view};
-ghost use Rattle.nextest_config_elements_toml.specs.Paths.{Gives};
-ghost use Rattle.nextest_config_resolution_overrides.specs.Overrides.{platforms_in, platforms_of};
+// The platforms on which a rule holds.
+ghost use Rattle.std.specs.Prelude.{◌≡◌, []};
+ghost use Rattle.toml.specs.View.{view};
+ghost use Rattle.nextest_config_elements_toml.specs.Paths.{GivesAt};
+ghost use Rattle.nextest_config_resolution_overrides.specs.Platforms as keys;
+ghost use Rattle.nextest_config_resolution_overrides.specs.Platforms.{platforms_of};
 
-use nextest_config_elements_deserialize::optional_text;
-use nextest_config_elements_toml::{TableMembers, ValueError, refused};
+use nextest_config_elements_toml::{ValueError, refused};
+use nextest_config_resolution_keys::{ConfigKey, FromKeys, KeyList, deserialize_table, read_text};
 use nextest_text::Text;
 use std::alloc::{AllocError, Global};
-use toml::{Table, Value};
+use toml::Value;
 
-/// `platform`: the platforms on which an override holds, as they are written. Each is `None` where
-/// it is left out.
+/// `host`: the spec of the platform on which tests are built and run.
+pub struct HostKey;
+
+impl ConfigKey for HostKey {
+    type Value = Text;
+
+    ghost key = { keys.host };
+
+    fn path() -> &'static [&'static str] {
+        &["host"]
+    }
+
+    fn read(alloc: Global, value: &Value) -> Result<Text, ValueError> {
+        read_text(alloc, value)
+    }
+}
+
+/// `target`: the spec of the platform for which tests are built.
+pub struct TargetKey;
+
+impl ConfigKey for TargetKey {
+    type Value = Text;
+
+    ghost key = { keys.target };
+
+    fn path() -> &'static [&'static str] {
+        &["target"]
+    }
+
+    fn read(alloc: Global, value: &Value) -> Result<Text, ValueError> {
+        read_text(alloc, value)
+    }
+}
+
+/// The keys of a table of platforms.
+pub type PlatformKeys = (HostKey, (TargetKey, ()));
+
+/// The platforms on which a rule holds, as they are written. Each is `None` where it is left out.
 pub struct OverridePlatforms {
     /// `host`: the spec of the platform on which tests are built and run.
     pub host: Option<Text>,
@@ -37,35 +74,29 @@ impl Drop for OverridePlatforms {
     }
 }
 
+impl FromKeys<PlatformKeys> for OverridePlatforms {
+    ghost use Rattle.nextest_config_resolution_overrides.specs.Platforms.{platforms_with};
+
+    ghost made = { platforms_with };
+
+    fn from_values(values: <PlatformKeys as KeyList>::Values) -> OverridePlatforms {
+        let (host, (target, ())) = values;
+        OverridePlatforms { host, target }
+    }
+}
+
 // A text is the spec of the target, a table has the specs of both.
-pub(crate) fn platforms_of(
-    alloc: Global,
-    value: &Value,
-    path: &[&str],
-) -> Result<OverridePlatforms, ValueError>
-    ensures { Gives path.now result (platforms_of (view value.now)) }
+pub(crate) fn platforms_of(alloc: Global, value: &Value) -> Result<OverridePlatforms, ValueError>
+    ensures { GivesAt [] result (platforms_of (view value.now)) }
 {
     match value {
         Value::String(text) => Ok(OverridePlatforms {
             host: None,
             target: Some(Text::from_str(alloc, text.as_str())?),
         }),
-        Value::Table(table) => platforms_in(alloc, table, path),
-        _ => Err(refused(alloc, path, Some(value), "a string or a table")),
+        Value::Table(table) => {
+            deserialize_table::<PlatformKeys, OverridePlatforms>(alloc, table, &[])
+        }
+        _ => Err(refused(alloc, &[], Some(value), "a string or a table")),
     }
-}
-
-// What a table says.
-#[tactic(auto, unfolding(crate::specs::Overrides::platforms_in))]
-fn platforms_in(
-    alloc: Global,
-    table: &Table,
-    path: &[&str],
-) -> Result<OverridePlatforms, ValueError>
-    ensures { Gives path.now result (platforms_in (table_view table.now)) }
-{
-    let mut members = TableMembers::new(table);
-    let host = optional_text(alloc, &mut members, path, "host")?;
-    let target = optional_text(alloc, &mut members, path, "target")?;
-    Ok(OverridePlatforms { host, target })
 }

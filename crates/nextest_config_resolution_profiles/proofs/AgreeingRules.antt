@@ -16,11 +16,10 @@ use Rattle.nextest_config_resolution_load.specs.declared.file_config.FileConfig.
 use Rattle.nextest_config_resolution_load.specs.declared.file_config.ProfileRules.{ProfileRules}
 use Rattle.nextest_config_resolution_overrides.specs.Groups.{groups_at}
 use Rattle.nextest_config_resolution_overrides.specs.declared.groups.NamedGroup.{NamedGroup}
-use Rattle.nextest_config_resolution_overrides.specs.declared.override_config.OverrideConfig.{OverrideConfig}
+use Rattle.nextest_config_resolution_load.specs.declared.file_config.TableRules.{TableRules}
 use Rattle.nextest_config_resolution_scripts.specs.Scripts.{old_scripts_at, scripts_at}
 use Rattle.nextest_config_resolution_scripts.specs.declared.script_config.NamedScript.{NamedScript}
 use Rattle.nextest_config_resolution_scripts.specs.declared.script_config.ScriptConfig.{ScriptConfig}
-use Rattle.nextest_config_resolution_scripts.specs.declared.script_rule.ScriptRuleConfig.{ScriptRuleConfig}
 use Rattle.nextest_config_resolution_scripts.specs.declared.setup_script.SetupScriptConfig.{SetupScriptConfig}
 use Rattle.nextest_config_resolution_settings.specs.Rules.{is_of_profile, rules_of}
 use Rattle.nextest_config_resolution_sources.specs.declared.source.ConfigSource.{ConfigSource}
@@ -62,8 +61,8 @@ profiles_of_config file config e =
 key_of : (key : List ℕ) (given : Data) (one : ProfileRules) → rules_of_profile key given ≡ Ok one → one.profile ≡ key
 key_of key given one e = by_rules (table_by rules_in_profile given) e
   where
-    by_rules : (rules : Reading (List OverrideConfig × List ScriptRuleConfig)) → (rules >>= (λ found. Ok (record { profile = key; overrides = found.0; scripts = found.1 }))) ≡ Ok one → one.profile ≡ key
-    by_rules (Ok found) h = let same : record { profile = key; overrides = found.0; scripts = found.1 } ≡ one = cc in ap (λ (it : ProfileRules). it.profile) (sym same)
+    by_rules : (rules : Reading TableRules) → (rules >>= (λ found. Ok (record { profile = key; overrides = found.overrides; scripts = found.scripts }))) ≡ Ok one → one.profile ≡ key
+    by_rules (Ok found) h = let same : record { profile = key; overrides = found.overrides; scripts = found.scripts } ≡ one = cc in ap (λ (it : ProfileRules). it.profile) (sym same)
     by_rules (Err keys) h = absurd (let k = h in cc)
 
 -- each of some names is one of them

@@ -54,6 +54,7 @@ use Rattle.nextest_filtering_filters.specs.declared.known_groups.KnownGroups.{Kn
 use Rattle.nextest_filtering_filters.specs.declared.known_groups.KnownGroups.TheVariants as groups
 use Rattle.nextest_filtering_ast.specs.declared.leaf.BuildPlatform.{BuildPlatform}
 use Rattle.nextest_filtering_ast.specs.declared.leaf.BuildPlatform.TheVariants as built
+use Rattle.nextest_config_resolution_overrides.specs.RuleKeys.{test_group_of}
 
 module _ {F Cx : Type 0} {IsParsed : Cx → FiltersetKind → KnownGroups → List ℕ → F → Type 0} {OnBinary : F → F → Binary → Option Bool → Type 0} {OnTest : F → F → Test → Bool → Type 0}
     {asks_groups has_runtime_leaves serves_as_default : F → Bool} (laws : FiltersLaws IsParsed OnBinary OnTest asks_groups has_runtime_leaves serves_as_default) (cx : Cx) where
@@ -196,10 +197,10 @@ module _ {F Cx : Type 0} {IsParsed : Cx → FiltersetKind → KnownGroups → Li
 
     -- what overrides set besides filters, they both set
     sets_group : (x y : OverrideOn F S) → RulesAlike x y → (v : TestGroup) → group_set x ≡ Some v → (w : TestGroup) × (group_set y ≡ Some w) × (v ≡ w)
-    sets_group x y r v is = (v, ap (λ (placed : PlacedOverride). placed.config.test_group) r.placed ∙ is, refl)
+    sets_group x y r v is = (v, ap (λ (placed : PlacedOverride). (test_group_of placed.config.rule)) r.placed ∙ is, refl)
 
     sets_group_back : (x y : OverrideOn F S) → RulesAlike x y → (w : TestGroup) → group_set y ≡ Some w → (v : TestGroup) × (group_set x ≡ Some v)
-    sets_group_back x y r w is = (w, ap (λ (placed : PlacedOverride). placed.config.test_group) (sym r.placed) ∙ is)
+    sets_group_back x y r w is = (w, ap (λ (placed : PlacedOverride). (test_group_of placed.config.rule)) (sym r.placed) ∙ is)
 
     group_too : (test : Test) (it : TestGroup) → IsGroupFor OnTest one test it → IsGroupFor OnTest other test it
     group_too test it (inl (rule, least)) =

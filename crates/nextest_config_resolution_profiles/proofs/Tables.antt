@@ -4,21 +4,26 @@ use Rattle.toml.specs.Data.{Data, string, integer, float, boolean, datetime, arr
 use Rattle.nextest_config_elements_toml.specs.Reading.{Reading, ◌>>=◌, under}
 use Rattle.nextest_config_elements_versions.specs.Demand.{experimental_in, nextest_version_in}
 use Rattle.nextest_config_resolution_load.specs.Checks.{MergedConfig, config_in}
-use Rattle.nextest_config_resolution_load.specs.File.{by_keys, check_of, file_in, profiles_at_file, profiles_in_file, profiles_of_file, rules_in_profile, rules_in_table, rules_of_profile}
+use Rattle.nextest_config_resolution_load.specs.File.{check_of, file_in, profiles_at_file, profiles_in_file, profiles_of_file, rules_in_profile, rules_of_profile, rules_with, table_values_in}
 use Rattle.nextest_config_resolution_load.specs.declared.file_config.FileConfig.{FileConfig}
 use Rattle.nextest_config_resolution_load.specs.declared.file_config.ProfileRules.{ProfileRules}
+use Rattle.nextest_config_resolution_load.specs.declared.file_config.TableRules.{TableRules}
 use Rattle.nextest_config_resolution_overrides.specs.Groups.{groups_at}
 use Rattle.nextest_config_resolution_scripts.specs.Scripts.{old_scripts_at, scripts_at}
 use Rattle.nextest_config_resolution_scripts.specs.declared.script_config.ScriptConfig.{ScriptConfig}
-use Rattle.nextest_config_resolution_scripts.specs.declared.script_rule.ScriptRuleConfig.{ScriptRuleConfig}
+use Rattle.nextest_config_resolution_scripts.specs.Rules.{script_rules}
 use Rattle.nextest_config_resolution_overrides.specs.declared.groups.NamedGroup.{NamedGroup}
-use Rattle.nextest_config_resolution_overrides.specs.declared.override_config.OverrideConfig.{OverrideConfig}
+use Rattle.nextest_config_resolution_overrides.specs.Overrides.{overrides}
 use Rattle.nextest_config_resolution_profiles.specs.Agreeing.{inside}
 use Rattle.nextest_config_resolution_tree.specs.Tree.{merge}
 use Rattle.nextest_config_resolution_tree.proofs.Standings.{joint, get_merge}
 use Rattle.nextest_config_elements_deserialize.specs.Tables.{IsTable}
 use Rattle.nextest_config_resolution_keys.specs.File.{Named, profiles_at, profiles_in, profiles_of, store_dir_at, store_dir_in, store_dir_of}
-use Rattle.nextest_config_resolution_keys.specs.Profile.{profile_in, profile_of}
+use Rattle.nextest_config_resolution_keys.proofs.Made.{read_of}
+use Rattle.nextest_config_resolution_keys.specs.Keys.{value_of}
+use Rattle.nextest_config_resolution_keys.specs.Listed.{joined_parts}
+use Rattle.nextest_config_resolution_keys.specs.Profile.{config_of, profile_in, profile_of, values_in}
+use Rattle.nextest_config_resolution_keys.specs.Rows.{both, made_of, nothing}
 use Rattle.nextest_config_resolution_keys.specs.declared.profile_config.ProfileConfig.{ProfileConfig}
 use Rattle.nextest_config_elements_deserialize.specs.Keys.{table_by}
 use Rattle.nextest_config_elements_deserialize.proofs.Parts.{table_is}
@@ -96,12 +101,13 @@ both_read top profiles store_dir first second = record {
   store_read = under_read (codes "store") (store_dir_of (get_member (codes "store") top)) store_dir second;
 }
 
--- the values of profiles whose overrides are read are read, too
-values_too : (first : Reading ProfileConfig) (second : Reading (List OverrideConfig × List ScriptRuleConfig)) (found : List OverrideConfig × List ScriptRuleConfig) → by_keys first second ≡ Ok found
-    → (values : ProfileConfig) × (first ≡ Ok values)
-values_too (Ok values) second found e = (values, refl)
-values_too (Err path) (Ok others) found e = absurd (cc)
-values_too (Err path) (Err other) found e = absurd (cc)
+-- the values of a profile whose rules are read are read, too
+values_too : (members : Members) (found : TableRules) → rules_in_profile members ≡ Ok found → (value : ProfileConfig) × (profile_in members ≡ Ok value)
+unfolding rules_in_profile profile_in
+values_too members found e =
+    let made = read_of rules_with (table_values_in members) found e in
+    let parts = joined_parts (values_in members) (both (value_of overrides) (both (value_of script_rules) nothing) members) made.values made.reads in
+    (config_of made.values.0, ap (made_of config_of) parts.0)
 
 -- a profile, and those behind it, by what is read of each
 with_others : (name : List ℕ) (first : Reading ProfileRules) (more : Reading (List ProfileRules)) (all : List ProfileRules)
@@ -112,9 +118,9 @@ with_others name (Ok one) (Err path) all e = absurd (cc)
 with_others name (Err path) more all e = absurd (cc)
 
 -- the table of a profile, by its overrides
-of_table : (name : List ℕ) (reading : Reading (List OverrideConfig × List ScriptRuleConfig)) (one : ProfileRules)
-    → (reading >>= (λ found. Ok (record { profile = name; overrides = found.0; scripts = found.1 }))) ≡ Ok one
-    → (found : List OverrideConfig × List ScriptRuleConfig) × (reading ≡ Ok found)
+of_table : (name : List ℕ) (reading : Reading TableRules) (one : ProfileRules)
+    → (reading >>= (λ found. Ok (record { profile = name; overrides = found.overrides; scripts = found.scripts }))) ≡ Ok one
+    → (found : TableRules) × (reading ≡ Ok found)
 of_table name (Ok found) one e = (found, refl)
 of_table name (Err path) one e = absurd (cc)
 
@@ -127,7 +133,7 @@ profile_value : (name : List ℕ) (given : Data) (one : ProfileRules) → rules_
 profile_value name given one e =
     let found = of_table name (table_by rules_in_profile given) one e in
     let (members, same, read) = read_table rules_in_profile given found.0 found.1 in
-    let it = values_too (profile_in members) (rules_in_table members) found.0 read in
+    let it = values_too members found.0 read in
     (it.0, ap profile_of same ∙ it.1)
 
 profiles_too : (members : Members) (all : List ProfileRules) → profiles_in_file members ≡ Ok all → (profiles : List Named) × (profiles_in members ≡ Ok profiles)

@@ -17,6 +17,7 @@ use Rattle.nextest_config_resolution_profiles.specs.Early.{Early}
 use Rattle.nextest_config_resolution_profiles.specs.Whole.{Whole}
 use Rattle.nextest_config_resolution_settings.specs.declared.default_filter.CompiledDefaultFilter.{CompiledDefaultFilter}
 use Rattle.nextest_config_elements_versions.specs.declared.feature.FeatureSet.{FeatureSet}
+use Rattle.nextest_config_resolution_overrides.specs.RuleKeys.{test_group_of}
 
 -- the chain of a profile has one list of values
 abbrev pub OneProfile : Type 0
@@ -65,7 +66,7 @@ ScriptRulesAreRead {F} {S} Is IsSpec IsTooDeep = (features : FeatureSet) (root :
 -- its overrides
 pub record AreDefined {F S : Type 0} (it : Early F S) : Type 0 where
   pub scripts : AllByRecursion (λ rule. HasScripts it.scripts rule.placed.config) it.script_rules
-  pub groups : AllByRecursion (λ rule. HasGroup it.groups rule.placed.config.test_group) it.rules
+  pub groups : AllByRecursion (λ rule. HasGroup it.groups (test_group_of rule.placed.config.rule)) it.rules
 
 abbrev pub NothingIsUndefined : {F S : Type 0} → IsFilterBy F → IsSpecBy S → (List ℕ → Type 0) → Type 0
 NothingIsUndefined {F} {S} Is IsSpec IsTooDeep = (features : FeatureSet) (root : List ℕ) (sources : List ConfigSource) (config : Whole F S) (name : Name) (it : Early F S)

@@ -23,7 +23,7 @@ use nextest_config_elements_values::{
     SlowTimeout, TestThreads, ThreadsRequired,
 };
 use nextest_config_resolution_filters::{Filters, Specs};
-use nextest_config_resolution_keys::{InheritsKey, OwnKeys, ProfileConfig, get};
+use nextest_config_resolution_keys::{InheritsKey, OwnKeys, ProfileConfig, get_value};
 use nextest_config_resolution_overrides::{NamedGroup, PlacedOverride};
 use nextest_config_resolution_scripts::{PlacedScriptRule, ScriptConfig};
 use nextest_config_resolution_settings::keys::{
@@ -144,7 +144,7 @@ impl<'c, F: Filters, S: Specs> EvaluatableProfile<'c, F, S> {
     pub fn inherits(&self) -> Option<&'c str>
         ensures { option_copied result ≡ inherits_of self.now.chain }
     {
-        text_of(get::<InheritsKey, _, OwnKeys, _>(*self.chain().first()?))
+        text_of(get_value::<InheritsKey, _, OwnKeys, _>(*self.chain().first()?))
     }
 
     /// The directory of its files.

@@ -1,4 +1,4 @@
--- Which tables are setup scripts, wrapper scripts and script rules.
+-- Which tables are setup scripts, wrapper scripts and script rules, and which values name scripts.
 use Rattle.std.proofs.Common.{◌≡◌, ℕ, ◌+◌, Bool, true, false, List, [], ◌∷◌, Option, None, Some, Ok, decimal, refl, sym, ap, ◌∙◌, subst}
 use Rattle.std.specs.Prelude.{codes}
 use Rattle.std.specs.Option.{option_map_or}
@@ -20,13 +20,14 @@ use Rattle.nextest_config_resolution_commands.specs.Accepted.{IsCommand, MayBeOr
 use Rattle.nextest_config_elements_deserialize.specs.Below.{defaulted_by, required_by}
 use Rattle.nextest_config_resolution_commands.specs.Commands.{command_in}
 use Rattle.nextest_config_resolution_commands.specs.declared.script_command.ScriptCommand.{ScriptCommand}
-use Rattle.nextest_config_resolution_overrides.proofs.TableLaws.{platforms_is, is_platforms}
-use Rattle.nextest_config_resolution_overrides.specs.Accepted.{IsPlatforms}
-use Rattle.nextest_config_resolution_overrides.specs.Overrides.{platforms_of}
-use Rattle.nextest_config_resolution_overrides.specs.declared.platforms.OverridePlatforms.{OverridePlatforms}
-use Rattle.nextest_config_resolution_scripts.specs.Accepted.{AreNames, IsScriptJunit, IsScriptRule, IsSetupScript, IsSlowScript, IsWrapperScript, NamesScripts, slow_test}
-use Rattle.nextest_config_resolution_scripts.specs.Laws.{AcceptedScriptRule, AcceptedSetupScript, AcceptedWrapperScript}
-use Rattle.nextest_config_resolution_scripts.specs.Rules.{items_in, names_by, names_of, one_name, script_rule_in, setup_at}
+use Rattle.nextest_config_resolution_keys.proofs.Made.{read_of, refused_made}
+use Rattle.nextest_config_resolution_keys.specs.Items.{items_in}
+use Rattle.nextest_config_resolution_keys.specs.Keys.{value_of}
+use Rattle.nextest_config_resolution_keys.specs.Listed.{joined_parts}
+use Rattle.nextest_config_resolution_keys.specs.Rows.{made_of, refusal, refusal_of}
+use Rattle.nextest_config_resolution_scripts.specs.Accepted.{AreNames, IsScriptJunit, IsSetupScript, IsSlowScript, IsWrapperScript, NamesScripts, slow_test}
+use Rattle.nextest_config_resolution_scripts.specs.Laws.{AcceptedNames, AcceptedScriptRule, AcceptedSetupScript, AcceptedWrapperScript, RefusedScriptRule}
+use Rattle.nextest_config_resolution_scripts.specs.Rules.{IsScriptRule, ScriptRuleValues, names_by, names_or_none, one_name, rule_with, script_rule_in, script_rule_rows, setup, values_in}
 use Rattle.nextest_config_resolution_scripts.specs.Scripts.{has_all, junit_in, setup_script_in, slow_script, slow_script_in, target_runner, wrapper_script_in}
 use Rattle.nextest_config_resolution_scripts.specs.declared.script_rule.ScriptRuleConfig.{ScriptRuleConfig}
 use Rattle.nextest_config_resolution_scripts.specs.declared.setup_script.SetupScriptConfig.{SetupScriptConfig}
@@ -263,71 +264,39 @@ is_names (boolean it) ids is = is_one (boolean it) ids is
 is_names (datetime it) ids is = is_one (datetime it) ids is
 is_names (table it) ids is = is_one (table it) ids is
 
--- `setup`, which may be left out
-names_or_none : (found : Option Data) → names_of found ≡ option_map_or names_by found (Ok [])
-names_or_none None = refl
-names_or_none (Some given) = refl
+pub accepted_names : AcceptedNames
+accepted_names given ids = (names_is given ids, is_names given ids)
 
-setup_or_none : (members : Members) → setup_at members ≡ defaulted_by (codes "setup") names_by [] members
-setup_or_none members = ap (λ (it : Reading Ids). under (codes "setup") it) (names_or_none (get_member (codes "setup") members))
+-- ---- a script rule
 
-setup_has : (members : Members) (ids : Ids) → setup_at members ≡ Ok ids → MayBeOr members (codes "setup") NamesScripts [] ids
-setup_has members ids e =
-    let read : defaulted_by (codes "setup") names_by [] members ≡ Ok ids = sym (setup_or_none members) ∙ e in
-    defaulted_is (codes "setup") names_by NamesScripts names_is [] members ids read
+of_values : (given : Members) (values : ScriptRuleValues) → values_in given ≡ Ok values → IsScriptRule given (rule_with values)
+of_values given values is =
+    let of_filter = joined_parts _ _ values is in
+    let of_list_wrapper = joined_parts _ _ values.1 of_filter.1 in
+    let of_platform = joined_parts _ _ values.1.1 of_list_wrapper.1 in
+    let of_run_wrapper = joined_parts _ _ values.1.1.1 of_platform.1 in
+    let of_setup = joined_parts _ _ values.1.1.1.1 of_run_wrapper.1 in
+    record {
+      filter = of_filter.0;
+      list_wrapper = of_list_wrapper.0;
+      platform = of_platform.0;
+      run_wrapper = of_run_wrapper.0;
+      setup = ap (made_of names_or_none) of_setup.0;
+    }
 
-has_setup : (members : Members) (ids : Ids) → MayBeOr members (codes "setup") NamesScripts [] ids → setup_at members ≡ Ok ids
-has_setup members ids is = setup_or_none members ∙ is_defaulted (codes "setup") names_by NamesScripts is_names [] members ids is
-
--- ---- a script rule, from the last key on
-
-abbrev rule_5 : Option (List ℕ) → Option (List ℕ) → Option OverridePlatforms → Option (List ℕ) → Ids → Reading ScriptRuleConfig
-rule_5 a1 a2 a3 a4 a5 = Ok (record { filter = a1; list_wrapper = a2; platform = a3; run_wrapper = a4; setup = a5 })
-
-abbrev rule_4 : Members → Option (List ℕ) → Option (List ℕ) → Option OverridePlatforms → Option (List ℕ) → Reading ScriptRuleConfig
-rule_4 members a1 a2 a3 a4 = setup_at members >>= rule_5 a1 a2 a3 a4
-
-abbrev rule_3 : Members → Option (List ℕ) → Option (List ℕ) → Option OverridePlatforms → Reading ScriptRuleConfig
-rule_3 members a1 a2 a3 = optional_by (codes "run-wrapper") config_identifier_in members >>= rule_4 members a1 a2 a3
-
-abbrev rule_2 : Members → Option (List ℕ) → Option (List ℕ) → Reading ScriptRuleConfig
-rule_2 members a1 a2 = optional_by (codes "platform") platforms_of members >>= rule_3 members a1 a2
-
-abbrev rule_1 : Members → Option (List ℕ) → Reading ScriptRuleConfig
-rule_1 members a1 = optional_by (codes "list-wrapper") config_identifier_in members >>= rule_2 members a1
-
-rule_same : (one other : ScriptRuleConfig) → ◌≡◌ {A = Reading ScriptRuleConfig} (Ok one) (Ok other) → one ≡ other
-rule_same one other e = cc
-
-read_rule : (members : Members) (it : ScriptRuleConfig) → script_rule_in members ≡ Ok it → IsScriptRule members it
+read_rule : (given : Members) (it : ScriptRuleConfig) → script_rule_in given ≡ Ok it → IsScriptRule given it
 unfolding script_rule_in
-read_rule members it e =
-    let s1 = taken (optional (codes "filter") as_str members) (rule_1 members) it e in
-    let s2 = taken (optional_by (codes "list-wrapper") config_identifier_in members) (rule_2 members s1.between) it s1.on in
-    let s3 = taken (optional_by (codes "platform") platforms_of members) (rule_3 members s1.between s2.between) it s2.on in
-    let s4 = taken (optional_by (codes "run-wrapper") config_identifier_in members) (rule_4 members s1.between s2.between s3.between) it s3.on in
-    let s5 = taken (setup_at members) (rule_5 s1.between s2.between s3.between s4.between) it s4.on in
-    let made : ScriptRuleConfig = record { filter = s1.between; list_wrapper = s2.between; platform = s3.between; run_wrapper = s4.between; setup = s5.between } in
-    subst (λ (it : ScriptRuleConfig). IsScriptRule members it) {x = made} {y = it} (rule_same made it s5.on) (record {
-      filter = optional_has (codes "filter") as_str members s1.between s1.read;
-      list_wrapper = optional_has (codes "list-wrapper") name members s2.between s2.read;
-      platform = by_has (codes "platform") platforms_of IsPlatforms platforms_is members s3.between s3.read;
-      run_wrapper = optional_has (codes "run-wrapper") name members s4.between s4.read;
-      setup = setup_has members s5.between s5.read;
-    })
+read_rule given it e = let made = read_of rule_with (values_in given) it e in subst (IsScriptRule given) made.is (of_values given made.values made.reads)
 
-rule_read : (members : Members) (it : ScriptRuleConfig) → IsScriptRule members it → script_rule_in members ≡ Ok it
+rule_read : (given : Members) (it : ScriptRuleConfig) → IsScriptRule given it → script_rule_in given ≡ Ok it
 unfolding script_rule_in
-rule_read members it is =
-    step (optional (codes "filter") as_str members) (rule_1 members) it.filter (has_optional (codes "filter") as_str members it.filter is.filter)
-    ∙ step (optional_by (codes "list-wrapper") config_identifier_in members) (rule_2 members it.filter) it.list_wrapper
-    (has_optional (codes "list-wrapper") name members it.list_wrapper is.list_wrapper)
-    ∙ step (optional_by (codes "platform") platforms_of members) (rule_3 members it.filter it.list_wrapper) it.platform
-    (has_by (codes "platform") platforms_of IsPlatforms is_platforms members it.platform is.platform)
-    ∙ step (optional_by (codes "run-wrapper") config_identifier_in members) (rule_4 members it.filter it.list_wrapper it.platform) it.run_wrapper
-    (has_optional (codes "run-wrapper") name members it.run_wrapper is.run_wrapper)
-    ∙ step (setup_at members) (rule_5 it.filter it.list_wrapper it.platform it.run_wrapper) it.setup
-    (has_setup members it.setup is.setup)
+rule_read given it is =
+    let names = read_of names_or_none (value_of setup given) it.setup is.setup in
+    rw (is.filter, is.list_wrapper, is.platform, is.run_wrapper, names.reads) (ap (λ (ids : Ids). Ok (record { filter = it.filter; list_wrapper = it.list_wrapper; platform = it.platform; run_wrapper = it.run_wrapper; setup = ids })) names.is)
 
 pub accepted_script_rule : AcceptedScriptRule
-accepted_script_rule members it = (read_rule members it, rule_read members it)
+accepted_script_rule given it = (read_rule given it, rule_read given it)
+
+pub refused_script_rule : ((given : Members) → refusal_of (values_in given) ≡ refusal script_rule_rows given) → RefusedScriptRule
+unfolding script_rule_in
+refused_script_rule refused given = refused_made rule_with (values_in given) ∙ refused given

@@ -1,16 +1,15 @@
--- Which tables are setup scripts, wrapper scripts and script rules, key by key and in no order.
+-- Which tables are setup scripts and wrapper scripts, key by key and in no order, and which values
+-- name setup scripts.
 use Rattle.std.specs.Prelude.{◌≡◌, ℕ, true, false, List, [], ◌∷◌, Some, codes, ⊤}
-use Rattle.toml.specs.Data.{Data, array, Items, no_items, item, Members, as_str}
+use Rattle.toml.specs.Data.{Data, array, Items, no_items, item, Members}
 use Rattle.nextest_config_elements_values.specs.declared.timeouts.SlowTimeout.{SlowTimeout}
-use Rattle.nextest_config_elements_deserialize.specs.Accepted.{HasOr, IsSlowTimeout, MayHave}
+use Rattle.nextest_config_elements_deserialize.specs.Accepted.{HasOr, IsSlowTimeout}
 use Rattle.nextest_config_elements_deserialize.specs.Names.{name}
 use Rattle.nextest_config_elements_deserialize.specs.Tables.{IsTable, MayBe, Reads}
 use Rattle.nextest_config_elements_deserialize.specs.Timeouts.{leak_timeout_in}
 use Rattle.nextest_config_elements_deserialize.specs.Values.{truth}
 use Rattle.nextest_config_resolution_commands.specs.Accepted.{IsCommand, MayBeOr, MustBe}
-use Rattle.nextest_config_resolution_overrides.specs.Accepted.{IsPlatforms}
 use Rattle.nextest_config_resolution_scripts.specs.Scripts.{has_all, target_runner}
-use Rattle.nextest_config_resolution_scripts.specs.declared.script_rule.ScriptRuleConfig.{ScriptRuleConfig}
 use Rattle.nextest_config_resolution_scripts.specs.declared.setup_script.SetupScriptConfig.{SetupScriptConfig}
 use Rattle.nextest_config_resolution_scripts.specs.declared.setup_script.SetupScriptJunitConfig.{SetupScriptJunitConfig}
 use Rattle.nextest_config_resolution_scripts.specs.declared.setup_script.SetupScriptSlowTimeout.{SetupScriptSlowTimeout}
@@ -59,11 +58,3 @@ AreNames (item given more) (id ∷ ids) = (name given ≡ Some id) × AreNames m
 abbrev pub NamesScripts : Data → List (List ℕ) → Type 0
 NamesScripts (array items) ids = AreNames items ids
 NamesScripts given ids = (id : List ℕ) × (name given ≡ Some id) × (ids ≡ id ∷ [])
-
--- a table is a script rule; without `setup` it names no setup script
-pub record IsScriptRule (members : Members) (it : ScriptRuleConfig) : Type 0 where
-  pub filter : MayHave members (codes "filter") as_str it.filter
-  pub list_wrapper : MayHave members (codes "list-wrapper") name it.list_wrapper
-  pub platform : MayBe members (codes "platform") IsPlatforms it.platform
-  pub run_wrapper : MayHave members (codes "run-wrapper") name it.run_wrapper
-  pub setup : MayBeOr members (codes "setup") NamesScripts [] it.setup

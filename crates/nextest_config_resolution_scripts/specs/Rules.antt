@@ -1,22 +1,25 @@
--- The script rules of a profile, as a file says them: which scripts some of its tests need. Each
--- key may be left out; other keys are read past.
-use Rattle.std.specs.Prelude.{ℕ, ◌+◌, List, [], ◌∷◌, Option, None, Some, Ok, Err, codes, decimal}
-use Rattle.toml.specs.Data.{Data, array, Items, no_items, item, Members, as_str, get_member}
-use Rattle.nextest_config_elements_toml.specs.Reading.{Reading, ◌>>=◌, optional, under}
-use Rattle.nextest_config_elements_deserialize.specs.Keys.{optional_by, table_by}
+-- The script rules of a profile, as a file says them: which scripts some of its tests need.
+use Rattle.std.specs.Prelude.{◌≡◌, ℕ, List, [], ◌∷◌, Option, Ok, Err, codes, unwrap_or}
+use Rattle.toml.specs.Data.{Data, array, Members}
+use Rattle.nextest_config_elements_deserialize.specs.Keys.{table_by}
 use Rattle.nextest_config_elements_deserialize.specs.Names.{config_identifier_in}
-use Rattle.nextest_config_resolution_overrides.specs.Overrides.{platforms_of}
+use Rattle.nextest_config_elements_toml.specs.Reading.{Reading, ◌>>=◌}
+use Rattle.nextest_config_resolution_keys.specs.Items.{items_in}
+use Rattle.nextest_config_resolution_keys.specs.Keys.{Key, value_of}
+use Rattle.nextest_config_resolution_keys.specs.Rows.{Row, both, made_of, nothing, row_of}
+use Rattle.nextest_config_resolution_overrides.specs.ConditionKeys.{filter, platform}
+use Rattle.nextest_config_resolution_overrides.specs.declared.platforms.OverridePlatforms.{OverridePlatforms}
 use Rattle.nextest_config_resolution_scripts.specs.declared.script_rule.ScriptRuleConfig.{ScriptRuleConfig}
 
--- the items of a list, each read so; what is wrong in one stands below its place, from 0 on
-abbrev pub items_in : {A : Type 0} → (Data → Reading A) → ℕ → Items → Reading (List A)
-items_in reading place no_items = Ok []
-items_in reading place (item given more) = do
-  one ← under (decimal place) (reading given)
-  others ← items_in reading (place + 1) more
-  Ok (one ∷ others)
+-- `list-wrapper`: the wrapper script that the command is handed to which lists the tests
+abbrev pub list_wrapper : Key (List ℕ)
+list_wrapper = record { path = codes "list-wrapper" ∷ []; reading = config_identifier_in }
 
--- the name of one script, or a list of them, or nothing
+-- `run-wrapper`: the wrapper script that the commands of the tests are handed to
+abbrev pub run_wrapper : Key (List ℕ)
+run_wrapper = record { path = codes "run-wrapper" ∷ []; reading = config_identifier_in }
+
+-- the name of one script, or a list of them
 abbrev pub one_name : Data → Reading (List (List ℕ))
 one_name given = do
   id ← config_identifier_in given
@@ -26,35 +29,52 @@ abbrev pub names_by : Data → Reading (List (List ℕ))
 names_by (array items) = items_in config_identifier_in 0 items
 names_by given = one_name given
 
-abbrev pub names_of : Option Data → Reading (List (List ℕ))
-names_of None = Ok []
-names_of (Some given) = names_by given
+-- `setup`: the setup scripts that are run before the tests
+abbrev pub setup : Key (List (List ℕ))
+setup = record { path = codes "setup" ∷ []; reading = names_by }
 
--- the setup scripts that a rule names
-abbrev pub setup_at : Members → Reading (List (List ℕ))
-setup_at members = under (codes "setup") (names_of (get_member (codes "setup") members))
+-- the keys of a script rule
+abbrev pub script_rule_rows : List Row
+script_rule_rows = row_of filter ∷ row_of list_wrapper ∷ row_of platform ∷ row_of run_wrapper ∷ row_of setup ∷ []
 
--- a script rule, by the bytes of its keys
+-- their values, and what a table says of them
+abbrev pub ScriptRuleValues : Type 0
+ScriptRuleValues = Option (List ℕ) × (Option (List ℕ) × (Option OverridePlatforms × (Option (List ℕ) × (Option (List (List ℕ)) × Unit {0}))))
+
+abbrev pub values_in : Members → Reading ScriptRuleValues
+values_in = both (value_of filter) (both (value_of list_wrapper) (both (value_of platform) (both (value_of run_wrapper) (both (value_of setup) nothing))))
+
+-- a script rule of its values: one without `setup` names no setup script
+abbrev pub names_or_none : Option (List (List ℕ)) → List (List ℕ)
+names_or_none names = unwrap_or names []
+
+abbrev pub rule_with : ScriptRuleValues → ScriptRuleConfig
+rule_with it = record {
+  filter = it.0;
+  list_wrapper = it.1.0;
+  platform = it.1.1.0;
+  run_wrapper = it.1.1.1.0;
+  setup = names_or_none it.1.1.1.1.0;
+}
+
+-- a table as a script rule: refused for the first place, by the bytes of the keys, at which one of
+-- its keys refuses it
 unfoldable pub script_rule_in : Members → Reading ScriptRuleConfig
-script_rule_in members = do
-  filter ← optional (codes "filter") as_str members
-  list_wrapper ← optional_by (codes "list-wrapper") config_identifier_in members
-  platform ← optional_by (codes "platform") platforms_of members
-  run_wrapper ← optional_by (codes "run-wrapper") config_identifier_in members
-  setup ← setup_at members
-  Ok (record {
-    filter = filter;
-    list_wrapper = list_wrapper;
-    platform = platform;
-    run_wrapper = run_wrapper;
-    setup = setup;
-  })
+script_rule_in given = made_of rule_with (values_in given)
 
--- what stands under `scripts` in the table of a profile: a list of tables, or nothing
-abbrev pub script_rules_of : Option Data → Reading (List ScriptRuleConfig)
-script_rules_of None = Ok []
-script_rules_of (Some (array items)) = items_in (table_by script_rule_in) 0 items
-script_rules_of (Some given) = Err []
+-- each key reads a table as its part of a script rule
+pub record IsScriptRule (given : Members) (it : ScriptRuleConfig) : Type 0 where
+  pub filter : value_of filter given ≡ Ok it.filter
+  pub list_wrapper : value_of list_wrapper given ≡ Ok it.list_wrapper
+  pub platform : value_of platform given ≡ Ok it.platform
+  pub run_wrapper : value_of run_wrapper given ≡ Ok it.run_wrapper
+  pub setup : made_of names_or_none (value_of setup given) ≡ Ok it.setup
 
-abbrev pub script_rules_at : Members → Reading (List ScriptRuleConfig)
-script_rules_at profile = under (codes "scripts") (script_rules_of (get_member (codes "scripts") profile))
+-- a list of tables, each of which is one
+abbrev pub script_rules_of : Data → Reading (List ScriptRuleConfig)
+script_rules_of (array items) = items_in (table_by script_rule_in) 0 items
+script_rules_of given = Err []
+
+-- `scripts`: the script rules of a profile
+abbrev pub script_rules : Key (List ScriptRuleConfig)
+script_rules = record { path = codes "scripts" ∷ []; reading = script_rules_of }

@@ -7,6 +7,7 @@
 #![tactic(auto)]
 
 pub mod laws;
+mod rule_keys;
 mod script_config;
 mod script_rule;
 mod setup_script;
@@ -15,10 +16,11 @@ mod wrapper_script;
 pub use nextest_config_resolution_commands::{
     ScriptCommand, ScriptCommandEnvMap, ScriptCommandRelativeTo, ScriptId,
 };
+pub use rule_keys::{ListWrapperKey, RunWrapperKey, ScriptRuleKeys, SetupKey};
 pub use script_config::{
     NamedScript, ProfileScriptType, ScriptConfig, ScriptInfo, ScriptType, deserialize_old_scripts,
     deserialize_scripts, script_named,
 };
-pub use script_rule::{PlacedScriptRule, ScriptRuleConfig, ScriptRuleId, deserialize_script_rules};
+pub use script_rule::{PlacedScriptRule, ScriptRuleConfig, ScriptRuleId, ScriptRulesKey};
 pub use setup_script::{SetupScriptConfig, SetupScriptJunitConfig, SetupScriptSlowTimeout};
 pub use wrapper_script::{WrapperScriptConfig, WrapperScriptTargetRunner};

@@ -9,17 +9,19 @@ use nextest_config_elements_values::{
     TestPriority, TestThreads, ThreadsRequired,
 };
 use nextest_config_resolution_keys::{
-    BenchKeys, JunitKeys, OutputKeys, OwnKeys, ProfileConfig, RunKeys, TestKeys, get,
+    BenchKeys, JunitKeys, OutputKeys, OwnKeys, ProfileConfig, RunKeys, TestKeys, get_value,
 };
 pub use nextest_config_resolution_keys::{
     BenchGlobalTimeoutKey, BenchSlowTimeoutKey, DefaultFilterKey, FailFastKey, FailWeightKey,
     FailureOutputKey, FinalStatusLevelKey, FlakyResultKey, GlobalTimeoutKey,
     JunitFlakyFailStatusKey, JunitPathKey, JunitReportNameKey, JunitReportSkippedKey,
-    JunitStoreFailureOutputKey, JunitStoreSuccessOutputKey, LeakTimeoutKey, PriorityKey,
-    RetriesKey, RunExtraArgsKey, SlowTimeoutKey, StatusLevelKey, SuccessOutputKey, TestGroupKey,
-    TestThreadsKey, ThreadsRequiredKey,
+    JunitStoreFailureOutputKey, JunitStoreSuccessOutputKey, LeakTimeoutKey, RetriesKey,
+    RunExtraArgsKey, SlowTimeoutKey, StatusLevelKey, SuccessOutputKey, TestThreadsKey,
+    ThreadsRequiredKey,
 };
+pub use nextest_config_resolution_overrides::{PriorityKey, TestGroupKey};
 use nextest_config_resolution_scripts::ScriptId;
+pub use nextest_config_resolution_scripts::{ListWrapperKey, RunWrapperKey};
 use nextest_text::{Listing, Text};
 
 impl Setting for RetriesKey {
@@ -32,7 +34,7 @@ impl Sets<RetriesKey> for ProfileConfig {
     ghost value = { retries };
 
     fn value(&self) -> Option<&RetryPolicy> {
-        get::<RetriesKey, _, TestKeys, _>(self)
+        get_value::<RetriesKey, _, TestKeys, _>(self)
     }
 }
 
@@ -46,7 +48,7 @@ impl Sets<FlakyResultKey> for ProfileConfig {
     ghost value = { flaky_result };
 
     fn value(&self) -> Option<&FlakyResult> {
-        get::<FlakyResultKey, _, TestKeys, _>(self)
+        get_value::<FlakyResultKey, _, TestKeys, _>(self)
     }
 }
 
@@ -60,7 +62,7 @@ impl Sets<FailWeightKey> for ProfileConfig {
     ghost value = { fail_weight };
 
     fn value(&self) -> Option<&FailWeight> {
-        get::<FailWeightKey, _, TestKeys, _>(self)
+        get_value::<FailWeightKey, _, TestKeys, _>(self)
     }
 }
 
@@ -74,7 +76,7 @@ impl Sets<LeakTimeoutKey> for ProfileConfig {
     ghost value = { leak_timeout };
 
     fn value(&self) -> Option<&LeakTimeout> {
-        get::<LeakTimeoutKey, _, TestKeys, _>(self)
+        get_value::<LeakTimeoutKey, _, TestKeys, _>(self)
     }
 }
 
@@ -88,7 +90,7 @@ impl Sets<SlowTimeoutKey> for ProfileConfig {
     ghost value = { test_slow_timeout };
 
     fn value(&self) -> Option<&SlowTimeout> {
-        get::<SlowTimeoutKey, _, TestKeys, _>(self)
+        get_value::<SlowTimeoutKey, _, TestKeys, _>(self)
     }
 }
 
@@ -102,7 +104,7 @@ impl Sets<ThreadsRequiredKey> for ProfileConfig {
     ghost value = { threads_required };
 
     fn value(&self) -> Option<&ThreadsRequired> {
-        get::<ThreadsRequiredKey, _, TestKeys, _>(self)
+        get_value::<ThreadsRequiredKey, _, TestKeys, _>(self)
     }
 }
 
@@ -116,7 +118,7 @@ impl Sets<FailFastKey> for ProfileConfig {
     ghost value = { fail_fast };
 
     fn value(&self) -> Option<&MaxFail> {
-        get::<FailFastKey, _, RunKeys, _>(self)
+        get_value::<FailFastKey, _, RunKeys, _>(self)
     }
 }
 
@@ -130,7 +132,7 @@ impl Sets<GlobalTimeoutKey> for ProfileConfig {
     ghost value = { run_global_timeout };
 
     fn value(&self) -> Option<&GlobalTimeout> {
-        get::<GlobalTimeoutKey, _, RunKeys, _>(self)
+        get_value::<GlobalTimeoutKey, _, RunKeys, _>(self)
     }
 }
 
@@ -144,7 +146,7 @@ impl Sets<TestThreadsKey> for ProfileConfig {
     ghost value = { test_threads };
 
     fn value(&self) -> Option<&TestThreads> {
-        get::<TestThreadsKey, _, RunKeys, _>(self)
+        get_value::<TestThreadsKey, _, RunKeys, _>(self)
     }
 }
 
@@ -158,7 +160,7 @@ impl Sets<FailureOutputKey> for ProfileConfig {
     ghost value = { failure_output };
 
     fn value(&self) -> Option<&TestOutputDisplay> {
-        get::<FailureOutputKey, _, OutputKeys, _>(self)
+        get_value::<FailureOutputKey, _, OutputKeys, _>(self)
     }
 }
 
@@ -172,7 +174,7 @@ impl Sets<FinalStatusLevelKey> for ProfileConfig {
     ghost value = { final_status_level };
 
     fn value(&self) -> Option<&FinalStatusLevel> {
-        get::<FinalStatusLevelKey, _, OutputKeys, _>(self)
+        get_value::<FinalStatusLevelKey, _, OutputKeys, _>(self)
     }
 }
 
@@ -186,7 +188,7 @@ impl Sets<StatusLevelKey> for ProfileConfig {
     ghost value = { status_level };
 
     fn value(&self) -> Option<&StatusLevel> {
-        get::<StatusLevelKey, _, OutputKeys, _>(self)
+        get_value::<StatusLevelKey, _, OutputKeys, _>(self)
     }
 }
 
@@ -200,7 +202,7 @@ impl Sets<SuccessOutputKey> for ProfileConfig {
     ghost value = { success_output };
 
     fn value(&self) -> Option<&TestOutputDisplay> {
-        get::<SuccessOutputKey, _, OutputKeys, _>(self)
+        get_value::<SuccessOutputKey, _, OutputKeys, _>(self)
     }
 }
 
@@ -214,7 +216,7 @@ impl Sets<DefaultFilterKey> for ProfileConfig {
     ghost value = { default_filter };
 
     fn value(&self) -> Option<&Text> {
-        get::<DefaultFilterKey, _, OwnKeys, _>(self)
+        get_value::<DefaultFilterKey, _, OwnKeys, _>(self)
     }
 }
 
@@ -228,7 +230,7 @@ impl Sets<RunExtraArgsKey> for ProfileConfig {
     ghost value = { run_extra_args };
 
     fn value(&self) -> Option<&Listing<Text>> {
-        get::<RunExtraArgsKey, _, OwnKeys, _>(self)
+        get_value::<RunExtraArgsKey, _, OwnKeys, _>(self)
     }
 }
 
@@ -242,7 +244,7 @@ impl Sets<BenchGlobalTimeoutKey> for ProfileConfig {
     ghost value = { bench_global_timeout };
 
     fn value(&self) -> Option<&GlobalTimeout> {
-        get::<BenchGlobalTimeoutKey, _, BenchKeys, _>(self)
+        get_value::<BenchGlobalTimeoutKey, _, BenchKeys, _>(self)
     }
 }
 
@@ -256,7 +258,7 @@ impl Sets<BenchSlowTimeoutKey> for ProfileConfig {
     ghost value = { bench_slow_timeout };
 
     fn value(&self) -> Option<&SlowTimeout> {
-        get::<BenchSlowTimeoutKey, _, BenchKeys, _>(self)
+        get_value::<BenchSlowTimeoutKey, _, BenchKeys, _>(self)
     }
 }
 
@@ -270,7 +272,7 @@ impl Sets<JunitFlakyFailStatusKey> for ProfileConfig {
     ghost value = { junit_flaky_fail_status };
 
     fn value(&self) -> Option<&JunitFlakyFailStatus> {
-        get::<JunitFlakyFailStatusKey, _, JunitKeys, _>(self)
+        get_value::<JunitFlakyFailStatusKey, _, JunitKeys, _>(self)
     }
 }
 
@@ -284,7 +286,7 @@ impl Sets<JunitPathKey> for ProfileConfig {
     ghost value = { junit_path };
 
     fn value(&self) -> Option<&Text> {
-        get::<JunitPathKey, _, JunitKeys, _>(self)
+        get_value::<JunitPathKey, _, JunitKeys, _>(self)
     }
 }
 
@@ -298,7 +300,7 @@ impl Sets<JunitReportNameKey> for ProfileConfig {
     ghost value = { junit_report_name };
 
     fn value(&self) -> Option<&Text> {
-        get::<JunitReportNameKey, _, JunitKeys, _>(self)
+        get_value::<JunitReportNameKey, _, JunitKeys, _>(self)
     }
 }
 
@@ -312,7 +314,7 @@ impl Sets<JunitReportSkippedKey> for ProfileConfig {
     ghost value = { junit_report_skipped };
 
     fn value(&self) -> Option<&ReportSkipPolicy> {
-        get::<JunitReportSkippedKey, _, JunitKeys, _>(self)
+        get_value::<JunitReportSkippedKey, _, JunitKeys, _>(self)
     }
 }
 
@@ -326,7 +328,7 @@ impl Sets<JunitStoreFailureOutputKey> for ProfileConfig {
     ghost value = { junit_store_failure_output };
 
     fn value(&self) -> Option<&bool> {
-        get::<JunitStoreFailureOutputKey, _, JunitKeys, _>(self)
+        get_value::<JunitStoreFailureOutputKey, _, JunitKeys, _>(self)
     }
 }
 
@@ -340,7 +342,7 @@ impl Sets<JunitStoreSuccessOutputKey> for ProfileConfig {
     ghost value = { junit_store_success_output };
 
     fn value(&self) -> Option<&bool> {
-        get::<JunitStoreSuccessOutputKey, _, JunitKeys, _>(self)
+        get_value::<JunitStoreSuccessOutputKey, _, JunitKeys, _>(self)
     }
 }
 
@@ -372,15 +374,9 @@ impl Sets<TestGroupKey> for ProfileConfig {
     }
 }
 
-/// `run-wrapper`, which script rules alone set: the name of a wrapper script.
-pub struct RunWrapperKey;
-
 impl Setting for RunWrapperKey {
     type Value = ScriptId;
 }
-
-/// `list-wrapper`, which script rules alone set: the name of a wrapper script.
-pub struct ListWrapperKey;
 
 impl Setting for ListWrapperKey {
     type Value = ScriptId;

@@ -12,7 +12,8 @@ use nextest_config_elements_values::{
     JunitFlakyFailStatus, LeakTimeout, ReportSkipPolicy, RetryPolicy, SlowTimeout, TestPriority,
     ThreadsRequired,
 };
-use nextest_config_resolution_overrides::{OverrideId, PlacedOverride};
+use nextest_config_resolution_keys::{TestKeys, get_value};
+use nextest_config_resolution_overrides::{OverrideId, PlacedOverride, ReportKeys, RuleKeys};
 use nextest_text::{Listing, Text};
 
 impl Rule for PlacedOverride {
@@ -41,7 +42,7 @@ impl Sets<RetriesKey> for PlacedOverride {
     ghost value = { retries };
 
     fn value(&self) -> Option<&RetryPolicy> {
-        self.config.retries.as_ref()
+        get_value::<RetriesKey, _, TestKeys, _>(&self.config)
     }
 }
 
@@ -51,7 +52,7 @@ impl Sets<FlakyResultKey> for PlacedOverride {
     ghost value = { flaky_result };
 
     fn value(&self) -> Option<&FlakyResult> {
-        self.config.flaky_result.as_ref()
+        get_value::<FlakyResultKey, _, TestKeys, _>(&self.config)
     }
 }
 
@@ -61,7 +62,7 @@ impl Sets<FailWeightKey> for PlacedOverride {
     ghost value = { fail_weight };
 
     fn value(&self) -> Option<&FailWeight> {
-        self.config.fail_weight.as_ref()
+        get_value::<FailWeightKey, _, TestKeys, _>(&self.config)
     }
 }
 
@@ -71,7 +72,7 @@ impl Sets<LeakTimeoutKey> for PlacedOverride {
     ghost value = { leak_timeout };
 
     fn value(&self) -> Option<&LeakTimeout> {
-        self.config.leak_timeout.as_ref()
+        get_value::<LeakTimeoutKey, _, TestKeys, _>(&self.config)
     }
 }
 
@@ -81,7 +82,7 @@ impl Sets<SlowTimeoutKey> for PlacedOverride {
     ghost value = { test_slow_timeout };
 
     fn value(&self) -> Option<&SlowTimeout> {
-        self.config.slow_timeout.as_ref()
+        get_value::<SlowTimeoutKey, _, TestKeys, _>(&self.config)
     }
 }
 
@@ -91,7 +92,7 @@ impl Sets<BenchSlowTimeoutKey> for PlacedOverride {
     ghost value = { bench_slow_timeout };
 
     fn value(&self) -> Option<&SlowTimeout> {
-        self.config.bench_slow_timeout.as_ref()
+        get_value::<BenchSlowTimeoutKey, _, RuleKeys, _>(&self.config)
     }
 }
 
@@ -101,7 +102,7 @@ impl Sets<ThreadsRequiredKey> for PlacedOverride {
     ghost value = { threads_required };
 
     fn value(&self) -> Option<&ThreadsRequired> {
-        self.config.threads_required.as_ref()
+        get_value::<ThreadsRequiredKey, _, TestKeys, _>(&self.config)
     }
 }
 
@@ -111,7 +112,7 @@ impl Sets<RunExtraArgsKey> for PlacedOverride {
     ghost value = { run_extra_args };
 
     fn value(&self) -> Option<&Listing<Text>> {
-        self.config.run_extra_args.as_ref()
+        get_value::<RunExtraArgsKey, _, RuleKeys, _>(&self.config)
     }
 }
 
@@ -121,7 +122,7 @@ impl Sets<SuccessOutputKey> for PlacedOverride {
     ghost value = { success_output };
 
     fn value(&self) -> Option<&TestOutputDisplay> {
-        self.config.success_output.as_ref()
+        get_value::<SuccessOutputKey, _, ReportKeys, _>(&self.config)
     }
 }
 
@@ -131,7 +132,7 @@ impl Sets<FailureOutputKey> for PlacedOverride {
     ghost value = { failure_output };
 
     fn value(&self) -> Option<&TestOutputDisplay> {
-        self.config.failure_output.as_ref()
+        get_value::<FailureOutputKey, _, ReportKeys, _>(&self.config)
     }
 }
 
@@ -141,10 +142,7 @@ impl Sets<JunitStoreSuccessOutputKey> for PlacedOverride {
     ghost value = { junit_store_success_output };
 
     fn value(&self) -> Option<&bool> {
-        match &self.config.junit {
-            Some(junit) => junit.store_success_output.as_ref(),
-            None => None,
-        }
+        get_value::<JunitStoreSuccessOutputKey, _, ReportKeys, _>(&self.config)
     }
 }
 
@@ -154,10 +152,7 @@ impl Sets<JunitStoreFailureOutputKey> for PlacedOverride {
     ghost value = { junit_store_failure_output };
 
     fn value(&self) -> Option<&bool> {
-        match &self.config.junit {
-            Some(junit) => junit.store_failure_output.as_ref(),
-            None => None,
-        }
+        get_value::<JunitStoreFailureOutputKey, _, ReportKeys, _>(&self.config)
     }
 }
 
@@ -167,10 +162,7 @@ impl Sets<JunitReportSkippedKey> for PlacedOverride {
     ghost value = { junit_report_skipped };
 
     fn value(&self) -> Option<&ReportSkipPolicy> {
-        match &self.config.junit {
-            Some(junit) => junit.report_skipped.as_ref(),
-            None => None,
-        }
+        get_value::<JunitReportSkippedKey, _, ReportKeys, _>(&self.config)
     }
 }
 
@@ -180,10 +172,7 @@ impl Sets<JunitFlakyFailStatusKey> for PlacedOverride {
     ghost value = { junit_flaky_fail_status };
 
     fn value(&self) -> Option<&JunitFlakyFailStatus> {
-        match &self.config.junit {
-            Some(junit) => junit.flaky_fail_status.as_ref(),
-            None => None,
-        }
+        get_value::<JunitFlakyFailStatusKey, _, ReportKeys, _>(&self.config)
     }
 }
 
@@ -193,7 +182,7 @@ impl Sets<PriorityKey> for PlacedOverride {
     ghost value = { priority };
 
     fn value(&self) -> Option<&TestPriority> {
-        self.config.priority.as_ref()
+        get_value::<PriorityKey, _, RuleKeys, _>(&self.config)
     }
 }
 
@@ -203,6 +192,6 @@ impl Sets<TestGroupKey> for PlacedOverride {
     ghost value = { test_group };
 
     fn value(&self) -> Option<&TestGroup> {
-        self.config.test_group.as_ref()
+        get_value::<TestGroupKey, _, RuleKeys, _>(&self.config)
     }
 }

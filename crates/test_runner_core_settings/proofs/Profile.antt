@@ -34,6 +34,7 @@ use Rattle.test_runner_core_settings.specs.Sets.{IsDefault, IsFilter, IsPlatform
 use Rattle.test_runner_core_settings.proofs.Alike.{IsRead, put, targets_alike}
 use Rattle.test_runner_core_settings.proofs.Mapped.{SetsToo, least_mapped, none_mapped}
 use Rattle.test_runner_core_settings.specs.Pass.{features_of}
+use Rattle.nextest_config_resolution_overrides.specs.RuleKeys.{default_filter_of}
 
 -- ---- the rules of a chain
 
@@ -135,7 +136,7 @@ module _ (cx : Context) (inputs : Inputs) (config : Whole Filterset PlatformSpec
   each_sets : (rules : List (LoadedOverride Filterset PlatformSpec)) → AllByRecursion (IsRead conditions_of cx (platforms_of inputs)) rules
       → AllByRecursion (SetsToo placed_of ForTarget (HoldsForTarget (platforms_of inputs)) on_platforms.default_set default_set) (map (put cx (platforms_of inputs)) rules)
   each_sets [] each = tt
-  each_sets (rule ∷ rules) each = (sets_too rule.placed.config.default_filter rule.compiled.default_filter each.0.compiled.default_filter, each_sets rules each.1)
+  each_sets (rule ∷ rules) each = (sets_too (default_filter_of rule.placed.config.rule) rule.compiled.default_filter each.0.compiled.default_filter, each_sets rules each.1)
 
   put_each : (rules : List (LoadedOverride Filterset PlatformSpec)) → AllByRecursion (IsRead conditions_of cx (platforms_of inputs)) rules
       → AllByRecursion (λ (it : OverrideOn Filterset PlatformSpec). IsRead conditions_of cx (platforms_of inputs) it.rule) (map (put cx (platforms_of inputs)) rules)
@@ -150,7 +151,7 @@ module _ (cx : Context) (inputs : Inputs) (config : Whole Filterset PlatformSpec
       let platforms = platforms_of inputs in
       let read = division_has (λ (it : OverrideOn Filterset PlatformSpec). IsRead conditions_of cx platforms it.rule) least.front rule least.back
       (subst (AllByRecursion (λ (it : OverrideOn Filterset PlatformSpec). IsRead conditions_of cx platforms it.rule)) least.divided (put_each (own names) (each_read names))) in
-      let set = set_read rule.rule.placed.config.default_filter rule.rule.compiled.default_filter filter read.compiled.default_filter least.sets in
+      let set = set_read (default_filter_of rule.rule.placed.config.rule) rule.rule.compiled.default_filter filter read.compiled.default_filter least.sets in
       let same : set.0 ≡ filter.input = sym set.2.0 in
       let placed = least_mapped placed_of ForTarget (HoldsForTarget platforms) on_platforms.default_set default_set (put_own names) rule filter set.0 (targets_alike conditions_of cx platforms (own names) (each_read names))
       (each_sets (own names) (each_read names)) least set.1 in (

@@ -16,6 +16,7 @@ use Rattle.nextest_filtering_filters.specs.declared.known_groups.KnownGroups.The
 use Rattle.nextest_filtering_ast.specs.Tree.{Tree}
 use Rattle.nextest_filtering_ast.specs.declared.leaf.BuildPlatform.TheVariants as built_for
 use Rattle.test_runner_core_settings.specs.Platforms.{HoldsFor, Platforms}
+use Rattle.nextest_config_resolution_overrides.specs.RuleKeys.{default_filter_of}
 
 -- ---- tests
 
@@ -46,7 +47,7 @@ HoldsForTarget platforms rule = HoldsFor platforms built_for.Target (conditions_
 
 -- what an override sets as the default filter
 abbrev pub default_set : PlacedOverride → Option (List ℕ)
-default_set rule = rule.config.default_filter
+default_set rule = (default_filter_of rule.config.rule)
 
 -- the text of the default filter: that of the first of some overrides that holds for the target and
 -- sets one, else that of the nearest of some profiles that does

@@ -1,5 +1,5 @@
 use Rattle.std.proofs.Common.{◌∙◌}
-use Rattle.nextest_config_resolution_overrides.proofs.Listed.{group_more}
+use Rattle.nextest_config_resolution_overrides.proofs.Grouped.{group_more}
 use Rattle.nextest_config_resolution_overrides.proofs.groups.groups_in.Goals as goal
 
 pub loop-key-preserved : goal.loop-key-preserved

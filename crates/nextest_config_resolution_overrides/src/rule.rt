@@ -1,11 +1,13 @@
-// The keys of tests that overrides alone have.
-ghost use Rattle.nextest_config_resolution_keys.specs.RuleKeys as keys;
+// The keys of an override that tell in which order, group and run a test stands.
+ghost use Rattle.nextest_config_resolution_overrides.specs.RuleKeys as keys;
 
-use crate::config_key::ConfigKey;
 use nextest_config_elements_deserialize::{deserialize_test_group, deserialize_test_priority};
 use nextest_config_elements_identifiers::TestGroup;
 use nextest_config_elements_toml::ValueError;
 use nextest_config_elements_values::TestPriority;
+use nextest_config_resolution_keys::{
+    BenchSlowTimeoutKey, ConfigKey, DefaultFilterKey, RunExtraArgsKey,
+};
 use std::alloc::Global;
 use toml::Value;
 
@@ -42,3 +44,12 @@ impl ConfigKey for TestGroupKey {
         deserialize_test_group(alloc, value, &[])
     }
 }
+
+/// The keys of an override that are neither of one test's run nor of its report.
+pub type RuleKeys = (
+    BenchSlowTimeoutKey,
+    (
+        DefaultFilterKey,
+        (PriorityKey, (RunExtraArgsKey, (TestGroupKey, ()))),
+    ),
+);

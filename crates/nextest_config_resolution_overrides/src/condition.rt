@@ -1,0 +1,46 @@
+// The keys that tell on which platforms and tests a rule holds.
+ghost use Rattle.nextest_config_resolution_overrides.specs.ConditionKeys as keys;
+
+use crate::platforms::{OverridePlatforms, platforms_of};
+use nextest_config_elements_toml::ValueError;
+use nextest_config_resolution_keys::{ConfigKey, read_text};
+use nextest_text::Text;
+use std::alloc::Global;
+use toml::Value;
+
+/// `filter`: the filterset of the tests on which a rule holds.
+pub struct FilterKey;
+
+impl ConfigKey for FilterKey {
+    type Value = Text;
+
+    ghost key = { keys.filter };
+
+    fn path() -> &'static [&'static str] {
+        &["filter"]
+    }
+
+    fn read(alloc: Global, value: &Value) -> Result<Text, ValueError> {
+        read_text(alloc, value)
+    }
+}
+
+/// `platform`: the platforms on which a rule holds.
+pub struct PlatformKey;
+
+impl ConfigKey for PlatformKey {
+    type Value = OverridePlatforms;
+
+    ghost key = { keys.platform };
+
+    fn path() -> &'static [&'static str] {
+        &["platform"]
+    }
+
+    fn read(alloc: Global, value: &Value) -> Result<OverridePlatforms, ValueError> {
+        platforms_of(alloc, value)
+    }
+}
+
+/// The keys that tell on which platforms and tests a rule holds.
+pub type ConditionKeys = (FilterKey, (PlatformKey, ()));
