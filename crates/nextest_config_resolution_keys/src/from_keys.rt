@@ -17,7 +17,7 @@ pub trait FromKeys<S: KeyList>: Drop {
     ghost made: { S.Values → Self };
 
     /// What is made of these values.
-    fn from_values(values: S::Values) -> Self
+    fn from_values(alloc: Global, values: S::Values) -> Self
         ensures { result ≡ made values };
 }
 
@@ -32,7 +32,7 @@ pub fn deserialize_table<S: KeyList, C: FromKeys<S>>(
     ensures { Gives path.now result (made_of C.made (S.reading (table_view table.now))) }
 {
     match S::read(alloc, table) {
-        Ok(values) => Ok(C::from_values(values)),
+        Ok(values) => Ok(C::from_values(alloc, values)),
         Err(error) => Err(within(alloc, path, error)),
     }
 }

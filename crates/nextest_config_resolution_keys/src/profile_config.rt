@@ -106,7 +106,7 @@ impl FromKeys<ProfileKeys> for ProfileConfig {
 
     ghost made = { config_of };
 
-    fn from_values(values: <ProfileKeys as KeyList>::Values) -> ProfileConfig {
+    fn from_values(_alloc: Global, values: <ProfileKeys as KeyList>::Values) -> ProfileConfig {
         let ((own, (run, test)), (output, (bench, junit))) = values;
         ProfileConfig {
             own,

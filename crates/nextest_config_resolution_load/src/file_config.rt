@@ -24,11 +24,11 @@ impl FromKeys<ProfileTableKeys> for TableRules {
 
     ghost made = { rules_with };
 
-    fn from_values(values: <ProfileTableKeys as KeyList>::Values) -> TableRules {
+    fn from_values(alloc: Global, values: <ProfileTableKeys as KeyList>::Values) -> TableRules {
         let (_, (overrides, (scripts, ()))) = values;
         TableRules {
-            overrides: overrides.unwrap_or(Listing::new(Global)),
-            scripts: scripts.unwrap_or(Listing::new(Global)),
+            overrides: overrides.unwrap_or(Listing::new(alloc)),
+            scripts: scripts.unwrap_or(Listing::new(alloc)),
         }
     }
 }

@@ -78,7 +78,7 @@ impl FromKeys<OverrideKeys> for OverrideConfig {
 
     ghost made = { config_of };
 
-    fn from_values(values: <OverrideKeys as KeyList>::Values) -> OverrideConfig {
+    fn from_values(_alloc: Global, values: <OverrideKeys as KeyList>::Values) -> OverrideConfig {
         let ((condition, rule), (test, report)) = values;
         OverrideConfig {
             condition,

@@ -79,7 +79,7 @@ impl FromKeys<PlatformKeys> for OverridePlatforms {
 
     ghost made = { platforms_with };
 
-    fn from_values(values: <PlatformKeys as KeyList>::Values) -> OverridePlatforms {
+    fn from_values(_alloc: Global, values: <PlatformKeys as KeyList>::Values) -> OverridePlatforms {
         let (host, (target, ())) = values;
         OverridePlatforms { host, target }
     }

@@ -1,12 +1,11 @@
 -- Which tables are setup scripts, wrapper scripts and script rules, and which values name scripts.
-use Rattle.std.proofs.Common.{◌≡◌, ℕ, ◌+◌, Bool, true, false, List, [], ◌∷◌, Option, None, Some, Ok, decimal, refl, sym, ap, ◌∙◌, subst}
+use Rattle.std.proofs.Common.{◌≡◌, ℕ, ◌+◌, Bool, true, false, List, [], ◌∷◌, Option, Some, Ok, decimal, refl, sym, ap, ◌∙◌, subst}
 use Rattle.std.specs.Prelude.{codes}
-use Rattle.std.specs.Option.{option_map_or}
-use Rattle.toml.specs.Data.{Data, string, integer, float, boolean, datetime, array, table, Items, no_items, item, Members, as_str, get_member}
+use Rattle.toml.specs.Data.{Data, string, integer, float, boolean, datetime, array, table, Items, no_items, item, Members}
 use Rattle.nextest_config_elements_values.specs.declared.timeouts.LeakTimeout.{LeakTimeout}
 use Rattle.nextest_config_elements_values.specs.declared.timeouts.SlowTimeout.{SlowTimeout}
-use Rattle.nextest_config_elements_toml.specs.Reading.{Reading, ◌>>=◌, defaulted, optional, under}
-use Rattle.nextest_config_elements_deserialize.proofs.Keys.{taken, step, leaf_is, is_leaf, optional_has, has_optional, defaulted_has, has_defaulted}
+use Rattle.nextest_config_elements_toml.specs.Reading.{Reading, ◌>>=◌, defaulted, under}
+use Rattle.nextest_config_elements_deserialize.proofs.Keys.{taken, step, leaf_is, is_leaf, defaulted_has, has_defaulted}
 use Rattle.nextest_config_elements_deserialize.proofs.Parts.{by_has, has_by, read_so, so_read, table_is, is_table}
 use Rattle.nextest_config_elements_deserialize.proofs.Slow.{accepted_slow_timeout}
 use Rattle.nextest_config_elements_deserialize.specs.Keys.{optional_by, table_by}
@@ -16,7 +15,7 @@ use Rattle.nextest_config_elements_deserialize.specs.Timeouts.{leak_timeout_in, 
 use Rattle.nextest_config_elements_deserialize.specs.Values.{truth}
 use Rattle.nextest_config_resolution_commands.proofs.Accepting.{accepted_command}
 use Rattle.nextest_config_resolution_commands.proofs.Stands.{read_under, required_is, is_required, defaulted_is, is_defaulted}
-use Rattle.nextest_config_resolution_commands.specs.Accepted.{IsCommand, MayBeOr, MustBe}
+use Rattle.nextest_config_resolution_commands.specs.Accepted.{IsCommand, MustBe}
 use Rattle.nextest_config_elements_deserialize.specs.Below.{defaulted_by, required_by}
 use Rattle.nextest_config_resolution_commands.specs.Commands.{command_in}
 use Rattle.nextest_config_resolution_commands.specs.declared.script_command.ScriptCommand.{ScriptCommand}

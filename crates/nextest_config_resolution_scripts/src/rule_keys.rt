@@ -1,4 +1,5 @@
 // The keys of a script rule.
+ghost use Rattle.std.specs.Prelude.{[]};
 ghost use Rattle.toml.specs.View.{view};
 ghost use Rattle.nextest_config_elements_toml.specs.Paths.{GivesAt};
 ghost use Rattle.nextest_config_resolution_scripts.specs.Rules as keys;

@@ -1,4 +1,5 @@
 // The script rules of a profile.
+ghost use Rattle.std.specs.Prelude.{◌≡◌};
 ghost use Rattle.nextest_config_elements_deserialize.specs.Keys.{table_by};
 ghost use Rattle.nextest_config_resolution_scripts.specs.Rules as keys;
 ghost use Rattle.nextest_config_resolution_scripts.specs.Rules.{script_rule_in};
@@ -112,14 +113,14 @@ impl FromKeys<ScriptRuleKeys> for ScriptRuleConfig {
 
     ghost made = { rule_with };
 
-    fn from_values(values: <ScriptRuleKeys as KeyList>::Values) -> ScriptRuleConfig {
+    fn from_values(alloc: Global, values: <ScriptRuleKeys as KeyList>::Values) -> ScriptRuleConfig {
         let (filter, (list_wrapper, (platform, (run_wrapper, (setup, ()))))) = values;
         ScriptRuleConfig {
             filter,
             list_wrapper,
             platform,
             run_wrapper,
-            setup: setup.unwrap_or(Listing::new(Global)),
+            setup: setup.unwrap_or(Listing::new(alloc)),
         }
     }
 }
