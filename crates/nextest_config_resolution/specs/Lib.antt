@@ -47,10 +47,13 @@ pub use Rattle.nextest_config_resolution_keys.specs.TestKeys
 pub use Rattle.nextest_config_resolution_keys.specs.OutputKeys
 pub use Rattle.nextest_config_resolution_keys.specs.BenchKeys
 pub use Rattle.nextest_config_resolution_keys.specs.JunitKeys
-pub use Rattle.nextest_config_resolution_keys.specs.RuleKeys as KeysOfRules
+pub use Rattle.nextest_config_resolution_keys.specs.Items
 pub use Rattle.nextest_config_resolution_keys.specs.Profile
 pub use Rattle.nextest_config_resolution_keys.specs.File
-pub use Rattle.nextest_config_resolution_overrides.specs.Accepted as AcceptedOverrides
+pub use Rattle.nextest_config_resolution_overrides.specs.ConditionKeys
+pub use Rattle.nextest_config_resolution_overrides.specs.RuleKeys as KeysOfRules
+pub use Rattle.nextest_config_resolution_overrides.specs.ReportKeys
+pub use Rattle.nextest_config_resolution_overrides.specs.Platforms as KeysOfPlatforms
 pub use Rattle.nextest_config_resolution_overrides.specs.Groups
 pub use Rattle.nextest_config_resolution_overrides.specs.Overrides
 pub use Rattle.nextest_config_resolution_inheritance.specs.Inheritance
@@ -146,7 +149,6 @@ pub use Rattle.nextest_config_resolution_load.specs.declared.rule_id.RuleId
 pub use Rattle.nextest_config_resolution_overrides.specs.declared.groups.NamedGroup
 pub use Rattle.nextest_config_resolution_overrides.specs.declared.override_config.OverrideConfig
 pub use Rattle.nextest_config_resolution_overrides.specs.declared.override_id.OverrideId
-pub use Rattle.nextest_config_resolution_overrides.specs.declared.junit.OverrideJunit
 pub use Rattle.nextest_config_resolution_overrides.specs.declared.platforms.OverridePlatforms
 pub use Rattle.nextest_config_resolution_overrides.specs.declared.placed_override.PlacedOverride
 pub use Rattle.nextest_config_resolution_profiles.specs.declared.platforms.BuildPlatforms

@@ -1,5 +1,5 @@
 // The groups of tests that overrides name.
-ghost use Rattle.std.specs.Prelude.{⊤, map};
+ghost use Rattle.std.specs.Prelude.{⊤, map, option_copied};
 ghost use Rattle.std.specs.List.{flat_map};
 ghost use Rattle.nextest_config_resolution_load.specs.Reading.{all_placed, has_name, overrides_of, placed_in};
 ghost use Rattle.nextest_config_resolution_load.specs.Refusing.{Passes};
@@ -67,7 +67,7 @@ fn check_group<R: Languages>(
     group: Option<&TestGroup>,
 ) -> Result<(), LoadError>
     ensures { Passes (R.is_filter cx.now) R.is_spec R.is_too_deep
-        (group_checks_of (has_name names.now) id.now (option_copied group)) (λ _. ⊤) result }
+        (group_checks_of (has_name names.now) id.now (option_copied group.entry)) (λ _. ⊤) result }
 {
     match group {
         None | Some(TestGroup::Global) => Ok(()),

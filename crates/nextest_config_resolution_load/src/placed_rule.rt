@@ -103,7 +103,7 @@ impl PlacedRule for PlacedScriptRule {
 
 // The spec of the platform on which tests are built and run.
 fn host_in(platform: Option<&OverridePlatforms>) -> Option<&Text>
-    ensures { option_copied result ≡ words.host_in (option_copied platform) }
+    ensures { option_copied result ≡ words.host_in (option_copied platform.entry) }
 {
     match platform {
         Some(platforms) => platforms.host.as_ref(),
@@ -113,7 +113,7 @@ fn host_in(platform: Option<&OverridePlatforms>) -> Option<&Text>
 
 // The spec of the platform for which they are built.
 fn target_in(platform: Option<&OverridePlatforms>) -> Option<&Text>
-    ensures { option_copied result ≡ words.target_in (option_copied platform) }
+    ensures { option_copied result ≡ words.target_in (option_copied platform.entry) }
 {
     match platform {
         Some(platforms) => platforms.target.as_ref(),
