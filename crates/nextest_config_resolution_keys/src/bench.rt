@@ -1,14 +1,16 @@
-// The keys of a profile in its table `bench`.
-ghost use Rattle.nextest_config_resolution_keys.specs.BenchKeys as keys;
+// The keys in the table `bench`.
+ghost use Rattle.std.specs.Prelude.{◌≡◌};
+ghost use Rattle.nextest_config_resolution_keys.specs.Bench as keys;
 
-use crate::config_key::ConfigKey;
+use crate::config_key::{ConfigKey, HasFallback};
 use nextest_config_elements_deserialize::{deserialize_global_timeout, deserialize_slow_timeout};
 use nextest_config_elements_toml::ValueError;
-use nextest_config_elements_values::{GlobalTimeout, SlowTimeout};
+use nextest_config_elements_values::{ConfigDuration, GlobalTimeout, SlowTimeout};
 use std::alloc::Global;
 use toml::Value;
 
-/// `bench.global-timeout`: how long a run of benchmarks may take.
+/// `bench.global-timeout`: how long a run of benchmarks may take. Where nothing sets it: thirty
+/// years.
 pub struct BenchGlobalTimeoutKey;
 
 impl ConfigKey for BenchGlobalTimeoutKey {
@@ -25,7 +27,18 @@ impl ConfigKey for BenchGlobalTimeoutKey {
     }
 }
 
-/// `bench.slow-timeout`: when a benchmark is slow, and when it is ended for that.
+impl HasFallback for BenchGlobalTimeoutKey {
+    ghost fallback = { keys.bench_global_timeout_fallback };
+
+    fn fallback() -> GlobalTimeout {
+        GlobalTimeout {
+            period: thirty_years(),
+        }
+    }
+}
+
+/// `bench.slow-timeout`: when a benchmark is slow, and when it is ended for that. Where nothing
+/// sets it: after thirty years, and nothing is ended for that.
 pub struct BenchSlowTimeoutKey;
 
 impl ConfigKey for BenchSlowTimeoutKey {
@@ -42,5 +55,17 @@ impl ConfigKey for BenchSlowTimeoutKey {
     }
 }
 
-/// The keys of a profile in its table `bench`.
-pub type BenchKeys = (BenchGlobalTimeoutKey, (BenchSlowTimeoutKey, ()));
+impl HasFallback for BenchSlowTimeoutKey {
+    ghost fallback = { keys.bench_slow_timeout_fallback };
+
+    fn fallback() -> SlowTimeout {
+        SlowTimeout::after(thirty_years())
+    }
+}
+
+// Thirty years, of 365.25 days each.
+pub(crate) fn thirty_years() -> ConfigDuration
+    ensures { result ≡ keys.thirty_years }
+{
+    ConfigDuration::from_nanos(946_728_000_000_000_000)
+}

@@ -32,6 +32,17 @@ pub trait ConfigKey {
         ensures { GivesAt [] result (key.reading (view value.now)) };
 }
 
+/// A key that has a value where no table sets one: that of the built-in configuration.
+pub trait HasFallback: ConfigKey {
+    ghost use Rattle.std.specs.Prelude.{◌≡◌};
+
+    ghost fallback: { Self.Value };
+
+    /// That value.
+    fn fallback() -> Self::Value
+        ensures { result ≡ fallback };
+}
+
 /// The value of a key in a table, if one stands there. An `Err` where what stands there, or above
 /// it, may not, or where there was no memory.
 #[tactic(auto, using(nextest_config_elements_deserialize::proofs::Giving::gives_below))]

@@ -4,7 +4,7 @@ ghost use Rattle.nextest_config_elements_deserialize.specs.Below.{IsBelow};
 ghost use Rattle.nextest_config_elements_toml.specs.Paths.{Gives, texts};
 ghost use Rattle.nextest_config_resolution_keys.specs.Rows.{made_of};
 
-use crate::key_list::KeyList;
+use crate::key_list::{DeserializeKeys, KeyList};
 use nextest_config_elements_deserialize::below;
 use nextest_config_elements_toml::ValueError;
 use std::alloc::Global;
@@ -24,7 +24,7 @@ pub trait FromKeys<S: KeyList>: Drop {
 /// What a table at a path is read as by a list of keys; other keys are read past. An `Err` has the
 /// path of the first value, by the bytes of the keys, that may not stand there.
 #[tactic(auto, using(crate::proofs::Made::gives_within))]
-pub fn deserialize_table<S: KeyList, C: FromKeys<S>>(
+pub fn deserialize_table<S: DeserializeKeys, C: FromKeys<S>>(
     alloc: Global,
     table: &Table,
     path: &[&str],

@@ -52,3 +52,12 @@ impl<J: ConfigKey, K: ConfigKey, I, R: HasKey<K, I>> HasKey<K, There<I>> for (J,
         R::value(&values.1)
     }
 }
+
+/// A key of a list, by which its value is found.
+pub trait ListedKey: ConfigKey {
+    /// Where it stands in the list.
+    type Place;
+
+    /// The list that it is of.
+    type List: HasKey<Self, Self::Place>;
+}

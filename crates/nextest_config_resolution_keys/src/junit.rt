@@ -1,7 +1,8 @@
-// The keys of a profile in its table `junit`.
-ghost use Rattle.nextest_config_resolution_keys.specs.JunitKeys as keys;
+// The keys in the table `junit`.
+ghost use Rattle.std.specs.Prelude.{◌≡◌};
+ghost use Rattle.nextest_config_resolution_keys.specs.Junit as keys;
 
-use crate::config_key::ConfigKey;
+use crate::config_key::{ConfigKey, HasFallback};
 use crate::reading::read_text;
 use nextest_config_elements_deserialize::{
     Any, deserialize_junit_flaky_fail_status, deserialize_report_skip_policy, whole,
@@ -12,7 +13,8 @@ use nextest_text::Text;
 use std::alloc::Global;
 use toml::Value;
 
-/// `junit.flaky-fail-status`: how a test is reported that fails since it is flaky.
+/// `junit.flaky-fail-status`: how a test is reported that fails since it is flaky. Where nothing
+/// sets it: as a failure.
 pub struct JunitFlakyFailStatusKey;
 
 impl ConfigKey for JunitFlakyFailStatusKey {
@@ -26,6 +28,14 @@ impl ConfigKey for JunitFlakyFailStatusKey {
 
     fn read(alloc: Global, value: &Value) -> Result<JunitFlakyFailStatus, ValueError> {
         deserialize_junit_flaky_fail_status(alloc, value, &[])
+    }
+}
+
+impl HasFallback for JunitFlakyFailStatusKey {
+    ghost fallback = { keys.junit_flaky_fail_status_fallback };
+
+    fn fallback() -> JunitFlakyFailStatus {
+        JunitFlakyFailStatus::Failure
     }
 }
 
@@ -46,7 +56,7 @@ impl ConfigKey for JunitPathKey {
     }
 }
 
-/// `junit.report-name`: the name that stands in the report.
+/// `junit.report-name`: the name that stands in the report. Where nothing sets it: `nextest-run`.
 pub struct JunitReportNameKey;
 
 impl ConfigKey for JunitReportNameKey {
@@ -63,7 +73,7 @@ impl ConfigKey for JunitReportNameKey {
     }
 }
 
-/// `junit.report-skipped`: which skipped tests are reported.
+/// `junit.report-skipped`: which skipped tests are reported. Where nothing sets it: none.
 pub struct JunitReportSkippedKey;
 
 impl ConfigKey for JunitReportSkippedKey {
@@ -80,7 +90,16 @@ impl ConfigKey for JunitReportSkippedKey {
     }
 }
 
-/// `junit.store-failure-output`: whether the report has the outputs of tests that fail.
+impl HasFallback for JunitReportSkippedKey {
+    ghost fallback = { keys.junit_report_skipped_fallback };
+
+    fn fallback() -> ReportSkipPolicy {
+        ReportSkipPolicy::None
+    }
+}
+
+/// `junit.store-failure-output`: whether the report has the outputs of tests that fail. Where
+/// nothing sets it, it has.
 pub struct JunitStoreFailureOutputKey;
 
 impl ConfigKey for JunitStoreFailureOutputKey {
@@ -97,7 +116,16 @@ impl ConfigKey for JunitStoreFailureOutputKey {
     }
 }
 
-/// `junit.store-success-output`: whether the report has the outputs of tests that pass.
+impl HasFallback for JunitStoreFailureOutputKey {
+    ghost fallback = { keys.junit_store_failure_output_fallback };
+
+    fn fallback() -> bool {
+        true
+    }
+}
+
+/// `junit.store-success-output`: whether the report has the outputs of tests that pass. Where
+/// nothing sets it, it has not.
 pub struct JunitStoreSuccessOutputKey;
 
 impl ConfigKey for JunitStoreSuccessOutputKey {
@@ -114,17 +142,17 @@ impl ConfigKey for JunitStoreSuccessOutputKey {
     }
 }
 
-/// The keys of a profile in its table `junit`.
-pub type JunitKeys = (
-    JunitFlakyFailStatusKey,
-    (
-        JunitPathKey,
-        (
-            JunitReportNameKey,
-            (
-                JunitReportSkippedKey,
-                (JunitStoreFailureOutputKey, (JunitStoreSuccessOutputKey, ())),
-            ),
-        ),
-    ),
-);
+impl HasFallback for JunitStoreSuccessOutputKey {
+    ghost fallback = { keys.junit_store_success_output_fallback };
+
+    fn fallback() -> bool {
+        false
+    }
+}
+
+/// The name of a report where no profile sets `junit.report-name`.
+pub fn junit_report_name_fallback() -> &'static str
+    ensures { result.now ≡ keys.junit_report_name_fallback }
+{
+    "nextest-run"
+}

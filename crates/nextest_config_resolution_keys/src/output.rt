@@ -1,7 +1,7 @@
-// The keys of a profile that tell what is shown.
-ghost use Rattle.nextest_config_resolution_keys.specs.OutputKeys as keys;
+// The keys that tell what is shown.
+ghost use Rattle.nextest_config_resolution_keys.specs.Output as keys;
 
-use crate::config_key::ConfigKey;
+use crate::config_key::{ConfigKey, HasFallback};
 use nextest_config_elements_choices::{FinalStatusLevel, StatusLevel, TestOutputDisplay};
 use nextest_config_elements_deserialize::{
     deserialize_final_status_level, deserialize_status_level, deserialize_test_output_display,
@@ -10,7 +10,7 @@ use nextest_config_elements_toml::ValueError;
 use std::alloc::Global;
 use toml::Value;
 
-/// `failure-output`: when the output of a test is shown that fails.
+/// `failure-output`: when the output of a test is shown that fails. Where nothing sets it: at once.
 pub struct FailureOutputKey;
 
 impl ConfigKey for FailureOutputKey {
@@ -27,7 +27,16 @@ impl ConfigKey for FailureOutputKey {
     }
 }
 
-/// `final-status-level`: which statuses are shown at the end of a run.
+impl HasFallback for FailureOutputKey {
+    ghost fallback = { keys.failure_output_fallback };
+
+    fn fallback() -> TestOutputDisplay {
+        TestOutputDisplay::Immediate
+    }
+}
+
+/// `final-status-level`: which statuses are shown at the end of a run. Where nothing sets it: up to
+/// flaky tests.
 pub struct FinalStatusLevelKey;
 
 impl ConfigKey for FinalStatusLevelKey {
@@ -44,7 +53,16 @@ impl ConfigKey for FinalStatusLevelKey {
     }
 }
 
-/// `status-level`: which statuses are shown while tests run.
+impl HasFallback for FinalStatusLevelKey {
+    ghost fallback = { keys.final_status_level_fallback };
+
+    fn fallback() -> FinalStatusLevel {
+        FinalStatusLevel::Flaky
+    }
+}
+
+/// `status-level`: which statuses are shown while tests run. Where nothing sets it: up to tests
+/// that pass.
 pub struct StatusLevelKey;
 
 impl ConfigKey for StatusLevelKey {
@@ -61,7 +79,15 @@ impl ConfigKey for StatusLevelKey {
     }
 }
 
-/// `success-output`: when the output of a test is shown that passes.
+impl HasFallback for StatusLevelKey {
+    ghost fallback = { keys.status_level_fallback };
+
+    fn fallback() -> StatusLevel {
+        StatusLevel::Pass
+    }
+}
+
+/// `success-output`: when the output of a test is shown that passes. Where nothing sets it: never.
 pub struct SuccessOutputKey;
 
 impl ConfigKey for SuccessOutputKey {
@@ -78,11 +104,10 @@ impl ConfigKey for SuccessOutputKey {
     }
 }
 
-/// The keys of a profile that tell what is shown.
-pub type OutputKeys = (
-    FailureOutputKey,
-    (
-        FinalStatusLevelKey,
-        (StatusLevelKey, (SuccessOutputKey, ())),
-    ),
-);
+impl HasFallback for SuccessOutputKey {
+    ghost fallback = { keys.success_output_fallback };
+
+    fn fallback() -> TestOutputDisplay {
+        TestOutputDisplay::Never
+    }
+}

@@ -1,5 +1,5 @@
-// The keys of a profile that tell of the profile itself.
-ghost use Rattle.nextest_config_resolution_keys.specs.OwnKeys as keys;
+// `default-filter`, `inherits` and `run-extra-args`.
+ghost use Rattle.nextest_config_resolution_keys.specs.Own as keys;
 
 use crate::config_key::ConfigKey;
 use crate::reading::read_text;
@@ -43,7 +43,7 @@ impl ConfigKey for InheritsKey {
     }
 }
 
-/// `run-extra-args`: the arguments that tests are run with besides.
+/// `run-extra-args`: the arguments that tests are run with besides. Where nothing sets it: none.
 pub struct RunExtraArgsKey;
 
 impl ConfigKey for RunExtraArgsKey {
@@ -59,6 +59,3 @@ impl ConfigKey for RunExtraArgsKey {
         deserialize_texts(alloc, value, &[])
     }
 }
-
-/// The keys of a profile that tell of the profile itself.
-pub type OwnKeys = (DefaultFilterKey, (InheritsKey, (RunExtraArgsKey, ())));

@@ -4,39 +4,29 @@ ghost use Rattle.nextest_config_elements_deserialize.specs.Paths.{profile_path};
 ghost use Rattle.nextest_config_elements_toml.specs.Paths.{GivesAt};
 ghost use Rattle.nextest_config_resolution_keys.specs.Profile.{profile_in, profile_of};
 
-use crate::bench::BenchKeys;
+use crate::config_key::ConfigKey;
 use crate::from_keys::{FromKeys, deserialize_table};
-use crate::junit::JunitKeys;
+use crate::has_key::HasKey;
+use crate::has_values::HasValues;
 use crate::key_list::{Both, KeyList};
-use crate::output::OutputKeys;
-use crate::own::OwnKeys;
-use crate::reads_keys::ReadsKeys;
-use crate::run::RunKeys;
-use crate::test::TestKeys;
+use crate::lists::{CommandKeys, OwnKeys, ReportKeys, TestKeys};
 use nextest_config_elements_toml::{ValueError, refused};
 use std::alloc::Global;
 use toml::{Table, Value};
 
 /// The keys of a profile, by what they tell of.
-pub type ProfileKeys = Both<
-    Both<OwnKeys, Both<RunKeys, TestKeys>>,
-    Both<OutputKeys, Both<BenchKeys, JunitKeys>>,
->;
+pub type ProfileKeys = Both<Both<OwnKeys, CommandKeys>, Both<TestKeys, ReportKeys>>;
 
 /// The values of a profile's keys, as its table has them. Each is `None` where its key is left out.
 pub struct ProfileConfig {
-    /// What it says of itself.
+    /// What profiles alone say.
     pub own: <OwnKeys as KeyList>::Values,
-    /// How a run goes.
-    pub run: <RunKeys as KeyList>::Values,
+    /// Which tests are run, and with which arguments.
+    pub command: <CommandKeys as KeyList>::Values,
     /// How each test is run.
     pub test: <TestKeys as KeyList>::Values,
-    /// What is shown.
-    pub output: <OutputKeys as KeyList>::Values,
-    /// What holds of benchmarks.
-    pub bench: <BenchKeys as KeyList>::Values,
-    /// The report in JUnit's form.
-    pub junit: <JunitKeys as KeyList>::Values,
+    /// How each test is shown and reported.
+    pub report: <ReportKeys as KeyList>::Values,
 }
 
 // One call drops it, whoever holds it.
@@ -44,60 +34,54 @@ impl Drop for ProfileConfig {
     fn drop(self) {
         let Self {
             own: _,
-            run: _,
+            command: _,
             test: _,
-            output: _,
-            bench: _,
-            junit: _,
+            report: _,
         } = self;
     }
 }
 
-impl ReadsKeys<OwnKeys> for ProfileConfig {
+impl HasValues<OwnKeys> for ProfileConfig {
     ghost values = { λ it. it.own };
 
-    fn values(&self) -> &<OwnKeys as KeyList>::Values {
-        &self.own
+    fn get<K: ConfigKey, I>(&self) -> Option<&K::Value>
+    where
+        OwnKeys: HasKey<K, I>,
+    {
+        <OwnKeys as HasKey<K, I>>::value(&self.own)
     }
 }
 
-impl ReadsKeys<RunKeys> for ProfileConfig {
-    ghost values = { λ it. it.run };
+impl HasValues<CommandKeys> for ProfileConfig {
+    ghost values = { λ it. it.command };
 
-    fn values(&self) -> &<RunKeys as KeyList>::Values {
-        &self.run
+    fn get<K: ConfigKey, I>(&self) -> Option<&K::Value>
+    where
+        CommandKeys: HasKey<K, I>,
+    {
+        <CommandKeys as HasKey<K, I>>::value(&self.command)
     }
 }
 
-impl ReadsKeys<TestKeys> for ProfileConfig {
+impl HasValues<TestKeys> for ProfileConfig {
     ghost values = { λ it. it.test };
 
-    fn values(&self) -> &<TestKeys as KeyList>::Values {
-        &self.test
+    fn get<K: ConfigKey, I>(&self) -> Option<&K::Value>
+    where
+        TestKeys: HasKey<K, I>,
+    {
+        <TestKeys as HasKey<K, I>>::value(&self.test)
     }
 }
 
-impl ReadsKeys<OutputKeys> for ProfileConfig {
-    ghost values = { λ it. it.output };
+impl HasValues<ReportKeys> for ProfileConfig {
+    ghost values = { λ it. it.report };
 
-    fn values(&self) -> &<OutputKeys as KeyList>::Values {
-        &self.output
-    }
-}
-
-impl ReadsKeys<BenchKeys> for ProfileConfig {
-    ghost values = { λ it. it.bench };
-
-    fn values(&self) -> &<BenchKeys as KeyList>::Values {
-        &self.bench
-    }
-}
-
-impl ReadsKeys<JunitKeys> for ProfileConfig {
-    ghost values = { λ it. it.junit };
-
-    fn values(&self) -> &<JunitKeys as KeyList>::Values {
-        &self.junit
+    fn get<K: ConfigKey, I>(&self) -> Option<&K::Value>
+    where
+        ReportKeys: HasKey<K, I>,
+    {
+        <ReportKeys as HasKey<K, I>>::value(&self.report)
     }
 }
 
@@ -107,14 +91,12 @@ impl FromKeys<ProfileKeys> for ProfileConfig {
     ghost made = { config_of };
 
     fn from_values(_alloc: Global, values: <ProfileKeys as KeyList>::Values) -> ProfileConfig {
-        let ((own, (run, test)), (output, (bench, junit))) = values;
+        let ((own, command), (test, report)) = values;
         ProfileConfig {
             own,
-            run,
+            command,
             test,
-            output,
-            bench,
-            junit,
+            report,
         }
     }
 }

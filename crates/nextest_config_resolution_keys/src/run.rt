@@ -1,7 +1,8 @@
-// The keys of a profile that tell how a run goes.
-ghost use Rattle.nextest_config_resolution_keys.specs.RunKeys as keys;
+// The keys that tell how a run goes.
+ghost use Rattle.nextest_config_resolution_keys.specs.Run as keys;
 
-use crate::config_key::ConfigKey;
+use crate::bench::thirty_years;
+use crate::config_key::{ConfigKey, HasFallback};
 use nextest_config_elements_choices::MaxFail;
 use nextest_config_elements_deserialize::{
     deserialize_fail_fast, deserialize_global_timeout, deserialize_test_threads,
@@ -11,7 +12,8 @@ use nextest_config_elements_values::{GlobalTimeout, TestThreads};
 use std::alloc::Global;
 use toml::Value;
 
-/// `fail-fast`: when failing tests stop a run.
+/// `fail-fast`: when failing tests stop a run. The first failing test stops a run where nothing
+/// sets it, and the run waits for what runs.
 pub struct FailFastKey;
 
 impl ConfigKey for FailFastKey {
@@ -28,7 +30,15 @@ impl ConfigKey for FailFastKey {
     }
 }
 
-/// `global-timeout`: how long a run may take.
+impl HasFallback for FailFastKey {
+    ghost fallback = { keys.fail_fast_fallback };
+
+    fn fallback() -> MaxFail {
+        MaxFail::from_fail_fast(true)
+    }
+}
+
+/// `global-timeout`: how long a run may take. Where nothing sets it: thirty years.
 pub struct GlobalTimeoutKey;
 
 impl ConfigKey for GlobalTimeoutKey {
@@ -45,7 +55,18 @@ impl ConfigKey for GlobalTimeoutKey {
     }
 }
 
-/// `test-threads`: how many tests run at a time.
+impl HasFallback for GlobalTimeoutKey {
+    ghost fallback = { keys.global_timeout_fallback };
+
+    fn fallback() -> GlobalTimeout {
+        GlobalTimeout {
+            period: thirty_years(),
+        }
+    }
+}
+
+/// `test-threads`: how many tests run at a time. Where nothing sets it: as many as there are
+/// processors.
 pub struct TestThreadsKey;
 
 impl ConfigKey for TestThreadsKey {
@@ -62,5 +83,10 @@ impl ConfigKey for TestThreadsKey {
     }
 }
 
-/// The keys of a profile that tell how a run goes.
-pub type RunKeys = (FailFastKey, (GlobalTimeoutKey, (TestThreadsKey, ())));
+impl HasFallback for TestThreadsKey {
+    ghost fallback = { keys.test_threads_fallback };
+
+    fn fallback() -> TestThreads {
+        TestThreads::NumCpus
+    }
+}

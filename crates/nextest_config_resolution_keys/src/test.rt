@@ -1,18 +1,21 @@
 // The keys that tell how a test is run.
-ghost use Rattle.nextest_config_resolution_keys.specs.TestKeys as keys;
+ghost use Rattle.nextest_config_resolution_keys.specs.Test as keys;
 
-use crate::config_key::ConfigKey;
-use nextest_config_elements_choices::{FailWeight, FlakyResult};
+use crate::config_key::{ConfigKey, HasFallback};
+use nextest_config_elements_choices::{FailWeight, FlakyResult, LeakTimeoutResult};
 use nextest_config_elements_deserialize::{
     deserialize_fail_weight, deserialize_flaky_result, deserialize_leak_timeout,
     deserialize_retry_policy, deserialize_slow_timeout, deserialize_threads_required,
 };
 use nextest_config_elements_toml::ValueError;
-use nextest_config_elements_values::{LeakTimeout, RetryPolicy, SlowTimeout, ThreadsRequired};
+use nextest_config_elements_values::{
+    ConfigDuration, LeakTimeout, RetryPolicy, SlowTimeout, ThreadsRequired,
+};
 use std::alloc::Global;
 use toml::Value;
 
-/// `fail-weight`: how much a test weighs where it fails.
+/// `fail-weight`: how much a test weighs where it fails. Where nothing sets it: 1, so that what
+/// failing tests weigh together is their number.
 pub struct FailWeightKey;
 
 impl ConfigKey for FailWeightKey {
@@ -29,7 +32,16 @@ impl ConfigKey for FailWeightKey {
     }
 }
 
-/// `flaky-result`: what becomes of a test where it passes on a later attempt than its first.
+impl HasFallback for FailWeightKey {
+    ghost fallback = { keys.fail_weight_fallback };
+
+    fn fallback() -> FailWeight {
+        FailWeight::default()
+    }
+}
+
+/// `flaky-result`: what becomes of a test where it passes on a later attempt than its first. Where
+/// nothing sets it, it passes.
 pub struct FlakyResultKey;
 
 impl ConfigKey for FlakyResultKey {
@@ -46,7 +58,16 @@ impl ConfigKey for FlakyResultKey {
     }
 }
 
-/// `leak-timeout`: how long handles may stay open behind a test.
+impl HasFallback for FlakyResultKey {
+    ghost fallback = { keys.flaky_result_fallback };
+
+    fn fallback() -> FlakyResult {
+        FlakyResult::Pass
+    }
+}
+
+/// `leak-timeout`: how long handles may stay open behind a test. Where nothing sets it: a tenth of
+/// a second, and a test that leaves handles open for longer passes.
 pub struct LeakTimeoutKey;
 
 impl ConfigKey for LeakTimeoutKey {
@@ -63,7 +84,18 @@ impl ConfigKey for LeakTimeoutKey {
     }
 }
 
-/// `retries`: how a test is tried again.
+impl HasFallback for LeakTimeoutKey {
+    ghost fallback = { keys.leak_timeout_fallback };
+
+    fn fallback() -> LeakTimeout {
+        LeakTimeout {
+            period: ConfigDuration::from_nanos(100_000_000),
+            result: LeakTimeoutResult::Pass,
+        }
+    }
+}
+
+/// `retries`: how a test is tried again. Where nothing sets it, it is not.
 pub struct RetriesKey;
 
 impl ConfigKey for RetriesKey {
@@ -80,7 +112,16 @@ impl ConfigKey for RetriesKey {
     }
 }
 
-/// `slow-timeout`: when a test is slow, and when it is ended for that.
+impl HasFallback for RetriesKey {
+    ghost fallback = { keys.retries_fallback };
+
+    fn fallback() -> RetryPolicy {
+        RetryPolicy::new_without_delay(0)
+    }
+}
+
+/// `slow-timeout`: when a test is slow, and when it is ended for that. Where nothing sets it: after
+/// a minute, and nothing is ended for that.
 pub struct SlowTimeoutKey;
 
 impl ConfigKey for SlowTimeoutKey {
@@ -97,7 +138,15 @@ impl ConfigKey for SlowTimeoutKey {
     }
 }
 
-/// `threads-required`: how many threads a test takes.
+impl HasFallback for SlowTimeoutKey {
+    ghost fallback = { keys.slow_timeout_fallback };
+
+    fn fallback() -> SlowTimeout {
+        SlowTimeout::after(ConfigDuration::from_nanos(60_000_000_000))
+    }
+}
+
+/// `threads-required`: how many threads a test takes. Where nothing sets it: one.
 pub struct ThreadsRequiredKey;
 
 impl ConfigKey for ThreadsRequiredKey {
@@ -114,14 +163,10 @@ impl ConfigKey for ThreadsRequiredKey {
     }
 }
 
-/// The keys that tell how a test is run.
-pub type TestKeys = (
-    FailWeightKey,
-    (
-        FlakyResultKey,
-        (
-            LeakTimeoutKey,
-            (RetriesKey, (SlowTimeoutKey, (ThreadsRequiredKey, ()))),
-        ),
-    ),
-);
+impl HasFallback for ThreadsRequiredKey {
+    ghost fallback = { keys.threads_required_fallback };
+
+    fn fallback() -> ThreadsRequired {
+        ThreadsRequired::Count(1)
+    }
+}

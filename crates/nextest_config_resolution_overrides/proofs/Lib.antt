@@ -1,2 +1,3 @@
 mod Accepting
 mod Grouped
+mod Platformed

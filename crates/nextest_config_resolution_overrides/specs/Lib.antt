@@ -1,6 +1,6 @@
-pub mod ConditionKeys
+pub mod Condition
 pub mod Groups
 pub mod Overrides
 pub mod Platforms
-pub mod ReportKeys
 pub mod RuleKeys
+pub mod Schedule

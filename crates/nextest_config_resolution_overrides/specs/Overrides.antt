@@ -5,27 +5,25 @@ use Rattle.nextest_config_elements_deserialize.specs.Keys.{table_by}
 use Rattle.nextest_config_elements_toml.specs.Reading.{Reading}
 use Rattle.nextest_config_resolution_keys.specs.Items.{items_in}
 use Rattle.nextest_config_resolution_keys.specs.Keys.{Key}
+use Rattle.nextest_config_resolution_keys.specs.Lists.{CommandValues, ReportValues, TestValues, command_in, command_rows, report_in, report_rows, test_in, test_rows}
 use Rattle.nextest_config_resolution_keys.specs.Rows.{Row, both, made_of}
-use Rattle.nextest_config_resolution_keys.specs.TestKeys.{TestValues, test_in, test_rows}
-use Rattle.nextest_config_resolution_overrides.specs.ConditionKeys.{ConditionValues, condition_in, condition_rows}
-use Rattle.nextest_config_resolution_overrides.specs.ReportKeys.{ReportValues, report_in, report_rows}
 use Rattle.nextest_config_resolution_overrides.specs.RuleKeys.{RuleValues, rule_in, rule_rows}
 use Rattle.nextest_config_resolution_overrides.specs.declared.override_config.OverrideConfig.{OverrideConfig}
 
 -- the keys of an override
 abbrev pub override_rows : List Row
-override_rows = (condition_rows ++ rule_rows) ++ (test_rows ++ report_rows)
+override_rows = (rule_rows ++ command_rows) ++ (test_rows ++ report_rows)
 
 -- their values, and what a table says of them
 abbrev pub OverrideValues : Type 0
-OverrideValues = (ConditionValues × RuleValues) × (TestValues × ReportValues)
+OverrideValues = (RuleValues × CommandValues) × (TestValues × ReportValues)
 
 abbrev pub values_in : Members → Reading OverrideValues
-values_in = both (both condition_in rule_in) (both test_in report_in)
+values_in = both (both rule_in command_in) (both test_in report_in)
 
 -- an override of its values
 abbrev pub config_of : OverrideValues → OverrideConfig
-config_of it = record { condition = it.0.0; rule = it.0.1; test = it.1.0; report = it.1.1 }
+config_of it = record { rule = it.0.0; command = it.0.1; test = it.1.0; report = it.1.1 }
 
 -- a table as an override: refused for the first place, by the bytes of the keys, at which one of
 -- its keys refuses it
@@ -34,8 +32,8 @@ override_in given = made_of config_of (values_in given)
 
 -- each list of its keys reads a table as its part of an override
 pub record IsOverride (given : Members) (it : OverrideConfig) : Type 0 where
-  pub condition : condition_in given ≡ Ok it.condition
   pub rule : rule_in given ≡ Ok it.rule
+  pub command : command_in given ≡ Ok it.command
   pub test : test_in given ≡ Ok it.test
   pub report : report_in given ≡ Ok it.report
 

@@ -1,5 +1,5 @@
 // The keys that tell on which platforms and tests a rule holds.
-ghost use Rattle.nextest_config_resolution_overrides.specs.ConditionKeys as keys;
+ghost use Rattle.nextest_config_resolution_overrides.specs.Condition as keys;
 
 use crate::platforms::{OverridePlatforms, platforms_of};
 use nextest_config_elements_toml::ValueError;
@@ -41,6 +41,3 @@ impl ConfigKey for PlatformKey {
         platforms_of(alloc, value)
     }
 }
-
-/// The keys that tell on which platforms and tests a rule holds.
-pub type ConditionKeys = (FilterKey, (PlatformKey, ()));

@@ -2,27 +2,26 @@
 ghost use Rattle.nextest_config_elements_deserialize.specs.Keys.{table_by};
 ghost use Rattle.nextest_config_resolution_overrides.specs.Overrides.{override_in};
 
-use crate::condition::ConditionKeys;
-use crate::report::ReportKeys;
 use crate::rule::RuleKeys;
 use nextest_config_elements_deserialize::DeserializeValue;
 use nextest_config_elements_toml::{ValueError, refused};
 use nextest_config_resolution_keys::{
-    Both, FromKeys, KeyList, ReadsKeys, TestKeys, deserialize_table,
+    Both, CommandKeys, ConfigKey, FromKeys, HasKey, HasValues, KeyList, ReportKeys, TestKeys,
+    deserialize_table,
 };
 use std::alloc::Global;
 use toml::Value;
 
 /// The keys of an override, by what they tell of.
-pub type OverrideKeys = Both<Both<ConditionKeys, RuleKeys>, Both<TestKeys, ReportKeys>>;
+pub type OverrideKeys = Both<Both<RuleKeys, CommandKeys>, Both<TestKeys, ReportKeys>>;
 
 /// The values of an override's keys, as its table has them. Each is `None` where its key is left
 /// out.
 pub struct OverrideConfig {
-    /// On which platforms and tests it holds.
-    pub condition: <ConditionKeys as KeyList>::Values,
-    /// In which order, group and run a test stands.
+    /// On which platforms and tests it holds, and in which order and group these run.
     pub rule: <RuleKeys as KeyList>::Values,
+    /// Which tests are run, and with which arguments.
+    pub command: <CommandKeys as KeyList>::Values,
     /// How a test is run.
     pub test: <TestKeys as KeyList>::Values,
     /// How a test is shown and reported.
@@ -33,43 +32,55 @@ pub struct OverrideConfig {
 impl Drop for OverrideConfig {
     fn drop(self) {
         let Self {
-            condition: _,
             rule: _,
+            command: _,
             test: _,
             report: _,
         } = self;
     }
 }
 
-impl ReadsKeys<ConditionKeys> for OverrideConfig {
-    ghost values = { λ it. it.condition };
-
-    fn values(&self) -> &<ConditionKeys as KeyList>::Values {
-        &self.condition
-    }
-}
-
-impl ReadsKeys<RuleKeys> for OverrideConfig {
+impl HasValues<RuleKeys> for OverrideConfig {
     ghost values = { λ it. it.rule };
 
-    fn values(&self) -> &<RuleKeys as KeyList>::Values {
-        &self.rule
+    fn get<K: ConfigKey, I>(&self) -> Option<&K::Value>
+    where
+        RuleKeys: HasKey<K, I>,
+    {
+        <RuleKeys as HasKey<K, I>>::value(&self.rule)
     }
 }
 
-impl ReadsKeys<TestKeys> for OverrideConfig {
+impl HasValues<CommandKeys> for OverrideConfig {
+    ghost values = { λ it. it.command };
+
+    fn get<K: ConfigKey, I>(&self) -> Option<&K::Value>
+    where
+        CommandKeys: HasKey<K, I>,
+    {
+        <CommandKeys as HasKey<K, I>>::value(&self.command)
+    }
+}
+
+impl HasValues<TestKeys> for OverrideConfig {
     ghost values = { λ it. it.test };
 
-    fn values(&self) -> &<TestKeys as KeyList>::Values {
-        &self.test
+    fn get<K: ConfigKey, I>(&self) -> Option<&K::Value>
+    where
+        TestKeys: HasKey<K, I>,
+    {
+        <TestKeys as HasKey<K, I>>::value(&self.test)
     }
 }
 
-impl ReadsKeys<ReportKeys> for OverrideConfig {
+impl HasValues<ReportKeys> for OverrideConfig {
     ghost values = { λ it. it.report };
 
-    fn values(&self) -> &<ReportKeys as KeyList>::Values {
-        &self.report
+    fn get<K: ConfigKey, I>(&self) -> Option<&K::Value>
+    where
+        ReportKeys: HasKey<K, I>,
+    {
+        <ReportKeys as HasKey<K, I>>::value(&self.report)
     }
 }
 
@@ -79,10 +90,10 @@ impl FromKeys<OverrideKeys> for OverrideConfig {
     ghost made = { config_of };
 
     fn from_values(_alloc: Global, values: <OverrideKeys as KeyList>::Values) -> OverrideConfig {
-        let ((condition, rule), (test, report)) = values;
+        let ((rule, command), (test, report)) = values;
         OverrideConfig {
-            condition,
             rule,
+            command,
             test,
             report,
         }

@@ -1,15 +1,16 @@
 // The platforms on which a rule holds.
 ghost use Rattle.std.specs.Prelude.{◌≡◌, []};
-ghost use Rattle.toml.specs.View.{view};
+ghost use Rattle.toml.specs.View.{table_view, view};
 ghost use Rattle.nextest_config_elements_toml.specs.Paths.{GivesAt};
+ghost use Rattle.nextest_config_resolution_keys.specs.Rows.{made_of};
 ghost use Rattle.nextest_config_resolution_overrides.specs.Platforms as keys;
-ghost use Rattle.nextest_config_resolution_overrides.specs.Platforms.{platforms_of};
+ghost use Rattle.nextest_config_resolution_overrides.specs.Platforms.{platform_values_in, platforms_of, platforms_with};
 
 use nextest_config_elements_toml::{ValueError, refused};
-use nextest_config_resolution_keys::{ConfigKey, FromKeys, KeyList, deserialize_table, read_text};
+use nextest_config_resolution_keys::{ConfigKey, DeserializeKeys, read_text};
 use nextest_text::Text;
 use std::alloc::{AllocError, Global};
-use toml::Value;
+use toml::{Table, Value};
 
 /// `host`: the spec of the platform on which tests are built and run.
 pub struct HostKey;
@@ -74,17 +75,6 @@ impl Drop for OverridePlatforms {
     }
 }
 
-impl FromKeys<PlatformKeys> for OverridePlatforms {
-    ghost use Rattle.nextest_config_resolution_overrides.specs.Platforms.{platforms_with};
-
-    ghost made = { platforms_with };
-
-    fn from_values(_alloc: Global, values: <PlatformKeys as KeyList>::Values) -> OverridePlatforms {
-        let (host, (target, ())) = values;
-        OverridePlatforms { host, target }
-    }
-}
-
 // A text is the spec of the target, a table has the specs of both.
 pub(crate) fn platforms_of(alloc: Global, value: &Value) -> Result<OverridePlatforms, ValueError>
     ensures { GivesAt [] result (platforms_of (view value.now)) }
@@ -94,9 +84,22 @@ pub(crate) fn platforms_of(alloc: Global, value: &Value) -> Result<OverridePlatf
             host: None,
             target: Some(Text::from_str(alloc, text.as_str())?),
         }),
-        Value::Table(table) => {
-            deserialize_table::<PlatformKeys, OverridePlatforms>(alloc, table, &[])
-        }
+        Value::Table(table) => platforms_in(alloc, table),
         _ => Err(refused(alloc, &[], Some(value), "a string or a table")),
+    }
+}
+
+// A table has the specs of both, and other keys of it are read past.
+#[tactic(auto, using(crate::proofs::Platformed::gives_made))]
+fn platforms_in(alloc: Global, table: &Table) -> Result<OverridePlatforms, ValueError>
+    ensures { GivesAt [] result
+        (made_of platforms_with (platform_values_in (table_view table.now))) }
+{
+    match <PlatformKeys as DeserializeKeys>::read(alloc, table) {
+        Ok(values) => {
+            let (host, (target, ())) = values;
+            Ok(OverridePlatforms { host, target })
+        }
+        Err(error) => Err(error),
     }
 }

@@ -1,55 +1,32 @@
-// The keys of an override that tell in which order, group and run a test stands.
-ghost use Rattle.nextest_config_resolution_overrides.specs.RuleKeys as keys;
+// The keys that overrides alone have.
+use crate::condition::{FilterKey, PlatformKey};
+use crate::schedule::{PriorityKey, TestGroupKey};
+use nextest_config_resolution_keys::{Here, ListedKey, There};
 
-use nextest_config_elements_deserialize::{deserialize_test_group, deserialize_test_priority};
-use nextest_config_elements_identifiers::TestGroup;
-use nextest_config_elements_toml::ValueError;
-use nextest_config_elements_values::TestPriority;
-use nextest_config_resolution_keys::{
-    BenchSlowTimeoutKey, ConfigKey, DefaultFilterKey, RunExtraArgsKey,
-};
-use std::alloc::Global;
-use toml::Value;
+/// The keys that overrides alone have: on which platforms and tests an override holds, and in which
+/// order and group these tests run.
+pub type RuleKeys = (FilterKey, (PlatformKey, (PriorityKey, (TestGroupKey, ()))));
 
-/// `priority`: before which tests a test runs.
-pub struct PriorityKey;
+impl ListedKey for FilterKey {
+    type Place = Here;
 
-impl ConfigKey for PriorityKey {
-    type Value = TestPriority;
-
-    ghost key = { keys.priority };
-
-    fn path() -> &'static [&'static str] {
-        &["priority"]
-    }
-
-    fn read(alloc: Global, value: &Value) -> Result<TestPriority, ValueError> {
-        deserialize_test_priority(alloc, value, &[])
-    }
+    type List = RuleKeys;
 }
 
-/// `test-group`: the group of a test.
-pub struct TestGroupKey;
+impl ListedKey for PlatformKey {
+    type Place = There<Here>;
 
-impl ConfigKey for TestGroupKey {
-    type Value = TestGroup;
-
-    ghost key = { keys.test_group };
-
-    fn path() -> &'static [&'static str] {
-        &["test-group"]
-    }
-
-    fn read(alloc: Global, value: &Value) -> Result<TestGroup, ValueError> {
-        deserialize_test_group(alloc, value, &[])
-    }
+    type List = RuleKeys;
 }
 
-/// The keys of an override that are neither of one test's run nor of its report.
-pub type RuleKeys = (
-    BenchSlowTimeoutKey,
-    (
-        DefaultFilterKey,
-        (PriorityKey, (RunExtraArgsKey, (TestGroupKey, ()))),
-    ),
-);
+impl ListedKey for PriorityKey {
+    type Place = There<There<Here>>;
+
+    type List = RuleKeys;
+}
+
+impl ListedKey for TestGroupKey {
+    type Place = There<There<There<Here>>>;
+
+    type List = RuleKeys;
+}

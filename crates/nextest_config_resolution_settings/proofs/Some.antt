@@ -9,15 +9,23 @@ use Rattle.nextest_config_resolution_scripts.specs.Defined.{script_named}
 use Rattle.nextest_config_resolution_scripts.specs.declared.script_config.NamedScript.{NamedScript}
 use Rattle.nextest_config_resolution_scripts.specs.declared.script_rule.PlacedScriptRule.{PlacedScriptRule}
 use Rattle.nextest_config_resolution_scripts.specs.declared.wrapper_script.WrapperScriptConfig.{WrapperScriptConfig}
-use Rattle.nextest_config_resolution_settings.specs.Fallbacks as fallback
-use Rattle.nextest_config_resolution_settings.specs.Keys as key
+use Rattle.nextest_config_resolution_keys.specs.Junit as junit_key
+use Rattle.nextest_config_resolution_keys.specs.Lists as key
+use Rattle.nextest_config_resolution_keys.specs.Lists.{CommandValues, ReportValues, TestValues}
+use Rattle.nextest_config_resolution_keys.specs.Modes.{slow_timeout_by, slow_timeout_or}
+use Rattle.nextest_config_resolution_keys.specs.Output as output_key
+use Rattle.nextest_config_resolution_keys.specs.Own as own_key
+use Rattle.nextest_config_resolution_keys.specs.Test as test_key
+use Rattle.nextest_config_resolution_overrides.specs.RuleKeys as rule
+use Rattle.nextest_config_resolution_overrides.specs.RuleKeys.{RuleValues}
+use Rattle.nextest_config_resolution_overrides.specs.Schedule as schedule_key
+use Rattle.nextest_config_resolution_settings.specs.Layers.{Layers}
 use Rattle.nextest_config_resolution_settings.specs.Laws.{SomeSettings}
 use Rattle.nextest_config_resolution_settings.specs.Nearest.{IsNearest, SetsNone, Source, a_profile, a_script_rule, an_override, no_layer, of_fallback, of_profile, of_profiles, of_rule}
 use Rattle.nextest_config_resolution_settings.specs.Profile.{OfProfiles}
-use Rattle.nextest_config_resolution_settings.specs.RuleKeys as rule
 use Rattle.nextest_config_resolution_settings.specs.Rules.{id_of}
 use Rattle.nextest_config_resolution_settings.specs.TestSettings.{group_of}
-use Rattle.nextest_config_resolution_settings.specs.Tracked.{IsTracked}
+use Rattle.nextest_config_resolution_settings.specs.Tracked.{IsCommandSetting, IsReportSetting, IsRuleSetting, IsTestSetting, IsTracked, by_command, by_report, by_rule, by_test}
 use Rattle.nextest_config_resolution_settings.specs.Tracking.{KeepsSome}
 use Rattle.nextest_config_resolution_settings.specs.Wrappers.{IsTrackedWrapper, run_wrapper}
 use Rattle.nextest_config_resolution_settings.specs.declared.test_settings.TestGroupRef.{TestGroupRef}
@@ -106,25 +114,45 @@ some_wrapper Tells keeps wrappers named_by rules = by_found (found named_by rule
         let kept = keeps no_layer in
         ((None, kept.0), record { from = no_layer; is = inr (unset, refl, refl); kept = kept.1 })
 
+-- by the list that a key is of
+some_of_rules : {S V : Type 0} (Tells : S → Source → Type 0) → KeepsSome Tells → (layers : Layers) (value_of : RuleValues → Option V) (fallback : V)
+    → (it : V × S) × IsRuleSetting Tells layers value_of fallback it
+some_of_rules Tells keeps layers value_of fallback = some_tracked Tells keeps id_of (by_rule value_of) (by_rule value_of) layers.overrides [] fallback
+
+some_of_command : {S V : Type 0} (Tells : S → Source → Type 0) → KeepsSome Tells → (layers : Layers) (value_of : CommandValues → Option V) (fallback : V)
+    → (it : V × S) × IsCommandSetting Tells layers value_of fallback it
+some_of_command Tells keeps layers value_of fallback =
+    some_tracked Tells keeps id_of (λ rule. value_of rule.config.command) (by_command value_of) layers.overrides layers.chain fallback
+
+some_of_test : {S V : Type 0} (Tells : S → Source → Type 0) → KeepsSome Tells → (layers : Layers) (value_of : TestValues → Option V) (fallback : V)
+    → (it : V × S) × IsTestSetting Tells layers value_of fallback it
+some_of_test Tells keeps layers value_of fallback =
+    some_tracked Tells keeps id_of (λ rule. value_of rule.config.test) (by_test value_of) layers.overrides layers.chain fallback
+
+some_of_report : {S V : Type 0} (Tells : S → Source → Type 0) → KeepsSome Tells → (layers : Layers) (value_of : ReportValues → Option V) (fallback : V)
+    → (it : V × S) × IsReportSetting Tells layers value_of fallback it
+some_of_report Tells keeps layers value_of fallback =
+    some_tracked Tells keeps id_of (λ rule. value_of rule.config.report) (by_report value_of) layers.overrides layers.chain fallback
+
 pub some_settings : {S : Type 0} (Tells : S → Source → Type 0) → KeepsSome Tells → SomeSettings Tells
 some_settings Tells keeps mode layers =
-    let priority = some_tracked Tells keeps id_of rule.priority key.priority layers.overrides layers.chain fallback.priority in
-    let threads_required = some_tracked Tells keeps id_of rule.threads_required key.threads_required layers.overrides layers.chain fallback.threads_required in
+    let priority = some_of_rules Tells keeps layers rule.priority_of schedule_key.priority_fallback in
+    let threads_required = some_of_test Tells keeps layers key.threads_required_of test_key.threads_required_fallback in
     let run_wrapper = some_wrapper Tells keeps layers.wrappers run_wrapper layers.scripts in
-    let run_extra_args = some_tracked Tells keeps id_of rule.run_extra_args key.run_extra_args layers.overrides layers.chain fallback.run_extra_args in
-    let retries = some_tracked Tells keeps id_of rule.retries key.retries layers.overrides layers.chain fallback.retries in
-    let flaky_result = some_tracked Tells keeps id_of rule.flaky_result key.flaky_result layers.overrides layers.chain fallback.flaky_result in
-    let fail_weight = some_tracked Tells keeps id_of rule.fail_weight key.fail_weight layers.overrides layers.chain fallback.fail_weight in
-    let slow_timeout = some_tracked Tells keeps id_of (rule.slow_timeout mode) (key.slow_timeout mode) layers.overrides layers.chain (fallback.slow_timeout mode) in
-    let leak_timeout = some_tracked Tells keeps id_of rule.leak_timeout key.leak_timeout layers.overrides layers.chain fallback.leak_timeout in
-    let test_group = some_tracked Tells keeps id_of rule.test_group key.test_group layers.overrides layers.chain fallback.test_group in
+    let run_extra_args = some_of_command Tells keeps layers key.run_extra_args_of own_key.run_extra_args_fallback in
+    let retries = some_of_test Tells keeps layers key.retries_of test_key.retries_fallback in
+    let flaky_result = some_of_test Tells keeps layers key.flaky_result_of test_key.flaky_result_fallback in
+    let fail_weight = some_of_test Tells keeps layers key.fail_weight_of test_key.fail_weight_fallback in
+    let slow_timeout = some_of_test Tells keeps layers (slow_timeout_by mode) (slow_timeout_or mode) in
+    let leak_timeout = some_of_test Tells keeps layers key.leak_timeout_of test_key.leak_timeout_fallback in
+    let test_group = some_of_rules Tells keeps layers rule.test_group_of schedule_key.test_group_fallback in
     let lent = some_lent test_group.0.0 in
-    let success_output = some_tracked Tells keeps id_of rule.success_output key.success_output layers.overrides layers.chain fallback.success_output in
-    let failure_output = some_tracked Tells keeps id_of rule.failure_output key.failure_output layers.overrides layers.chain fallback.failure_output in
-    let junit_store_success_output = some_tracked Tells keeps id_of rule.junit_store_success_output key.junit_store_success_output layers.overrides layers.chain fallback.junit_store_success_output in
-    let junit_store_failure_output = some_tracked Tells keeps id_of rule.junit_store_failure_output key.junit_store_failure_output layers.overrides layers.chain fallback.junit_store_failure_output in
-    let junit_report_skipped = some_tracked Tells keeps id_of rule.junit_report_skipped key.junit_report_skipped layers.overrides layers.chain fallback.junit_report_skipped in
-    let junit_flaky_fail_status = some_tracked Tells keeps id_of rule.junit_flaky_fail_status key.junit_flaky_fail_status layers.overrides layers.chain fallback.junit_flaky_fail_status in (
+    let success_output = some_of_report Tells keeps layers key.success_output_of output_key.success_output_fallback in
+    let failure_output = some_of_report Tells keeps layers key.failure_output_of output_key.failure_output_fallback in
+    let junit_store_success_output = some_of_report Tells keeps layers key.junit_store_success_output_of junit_key.junit_store_success_output_fallback in
+    let junit_store_failure_output = some_of_report Tells keeps layers key.junit_store_failure_output_of junit_key.junit_store_failure_output_fallback in
+    let junit_report_skipped = some_of_report Tells keeps layers key.junit_report_skipped_of junit_key.junit_report_skipped_fallback in
+    let junit_flaky_fail_status = some_of_report Tells keeps layers key.junit_flaky_fail_status_of junit_key.junit_flaky_fail_status_fallback in (
       record {
         priority = priority.0;
         threads_required = threads_required.0;
@@ -153,7 +181,7 @@ some_settings Tells keeps mode layers =
         fail_weight = fail_weight.1;
         slow_timeout = slow_timeout.1;
         leak_timeout = leak_timeout.1;
-        test_group = subst (λ (it : TestGroup). IsTracked Tells id_of rule.test_group key.test_group layers.overrides layers.chain fallback.test_group (it, test_group.0.1)) (sym lent.1) test_group.1;
+        test_group = subst (λ (it : TestGroup). IsRuleSetting Tells layers rule.test_group_of schedule_key.test_group_fallback (it, test_group.0.1)) (sym lent.1) test_group.1;
         success_output = success_output.1;
         failure_output = failure_output.1;
         junit_store_success_output = junit_store_success_output.1;

@@ -1,11 +1,8 @@
 pub mod Default
-pub mod Fallbacks
-pub mod Keys
 pub mod Laws
 pub mod Layers
 pub mod Nearest
 pub mod Profile
-pub mod RuleKeys
 pub mod RuleLaws
 pub mod Rules
 pub mod TestSettings

@@ -4,13 +4,17 @@ use Rattle.std.specs.Option.{option_copied}
 use Rattle.nextest_config_elements_identifiers.specs.declared.test_group.TestGroup.{TestGroup}
 use Rattle.nextest_config_elements_identifiers.specs.declared.test_group.TestGroup.TheVariants as group
 use Rattle.nextest_config_elements_choices.specs.declared.run_mode.NextestRunMode.{NextestRunMode}
-use Rattle.nextest_config_resolution_settings.specs.Fallbacks as fallback
-use Rattle.nextest_config_resolution_settings.specs.Keys as key
+use Rattle.nextest_config_resolution_keys.specs.Junit as junit_key
+use Rattle.nextest_config_resolution_keys.specs.Lists as key
+use Rattle.nextest_config_resolution_keys.specs.Modes.{slow_timeout_by, slow_timeout_or}
+use Rattle.nextest_config_resolution_keys.specs.Output as output_key
+use Rattle.nextest_config_resolution_keys.specs.Own as own_key
+use Rattle.nextest_config_resolution_keys.specs.Test as test_key
+use Rattle.nextest_config_resolution_overrides.specs.RuleKeys as rule
+use Rattle.nextest_config_resolution_overrides.specs.Schedule as schedule_key
 use Rattle.nextest_config_resolution_settings.specs.Layers.{Layers}
 use Rattle.nextest_config_resolution_settings.specs.Nearest.{Source}
-use Rattle.nextest_config_resolution_settings.specs.RuleKeys as rule
-use Rattle.nextest_config_resolution_settings.specs.Rules.{id_of}
-use Rattle.nextest_config_resolution_settings.specs.Tracked.{IsTracked}
+use Rattle.nextest_config_resolution_settings.specs.Tracked.{IsCommandSetting, IsReportSetting, IsRuleSetting, IsTestSetting}
 use Rattle.nextest_config_resolution_settings.specs.Tracking.{HaveOneSource}
 use Rattle.nextest_config_resolution_settings.specs.Wrappers.{IsTrackedWrapper, run_wrapper}
 use Rattle.nextest_config_resolution_settings.specs.declared.test_settings.TestGroupRef.{TestGroupRef}
@@ -23,44 +27,35 @@ group_of group_ref.Global = group.Global
 group_of (group_ref.Custom it) = group.Custom it.now
 
 -- each is what the rules that hold on a test and the chain of its profile have, with what is kept
--- of where it is taken from; script rules alone set a wrapper script
+-- of where it is taken from; overrides alone set a priority and a group, and script rules alone a
+-- wrapper script
 pub record AreSettings {S : Type 0} (Tells : S → Source → Type 0) (mode : NextestRunMode) (layers : Layers)
     (settings : TestSettings S) : Type 0 where
-  pub priority : IsTracked Tells id_of rule.priority key.priority layers.overrides layers.chain
-      fallback.priority settings.priority
-  pub threads_required : IsTracked Tells id_of rule.threads_required key.threads_required layers.overrides layers.chain
-      fallback.threads_required settings.threads_required
+  pub priority : IsRuleSetting Tells layers rule.priority_of schedule_key.priority_fallback settings.priority
+  pub threads_required : IsTestSetting Tells layers key.threads_required_of test_key.threads_required_fallback settings.threads_required
   pub run_wrapper : IsTrackedWrapper Tells layers.wrappers run_wrapper layers.scripts
       (option_copied settings.run_wrapper.0, settings.run_wrapper.1)
-  pub run_extra_args : IsTracked Tells id_of rule.run_extra_args key.run_extra_args layers.overrides layers.chain
-      fallback.run_extra_args (settings.run_extra_args.0.now, settings.run_extra_args.1)
-  pub retries : IsTracked Tells id_of rule.retries key.retries layers.overrides layers.chain fallback.retries settings.retries
-  pub flaky_result : IsTracked Tells id_of rule.flaky_result key.flaky_result layers.overrides layers.chain
-      fallback.flaky_result settings.flaky_result
-  pub fail_weight : IsTracked Tells id_of rule.fail_weight key.fail_weight layers.overrides layers.chain
-      fallback.fail_weight settings.fail_weight
-  pub slow_timeout : IsTracked Tells id_of (rule.slow_timeout mode) (key.slow_timeout mode) layers.overrides layers.chain
-      (fallback.slow_timeout mode) settings.slow_timeout
-  pub leak_timeout : IsTracked Tells id_of rule.leak_timeout key.leak_timeout layers.overrides layers.chain
-      fallback.leak_timeout settings.leak_timeout
-  pub test_group : IsTracked Tells id_of rule.test_group key.test_group layers.overrides layers.chain
-      fallback.test_group (group_of settings.test_group.0, settings.test_group.1)
-  pub success_output : IsTracked Tells id_of rule.success_output key.success_output layers.overrides layers.chain
-      fallback.success_output settings.success_output
-  pub failure_output : IsTracked Tells id_of rule.failure_output key.failure_output layers.overrides layers.chain
-      fallback.failure_output settings.failure_output
-  pub junit_store_success_output : IsTracked Tells id_of
-      rule.junit_store_success_output key.junit_store_success_output layers.overrides layers.chain
-      fallback.junit_store_success_output settings.junit_store_success_output
-  pub junit_store_failure_output : IsTracked Tells id_of
-      rule.junit_store_failure_output key.junit_store_failure_output layers.overrides layers.chain
-      fallback.junit_store_failure_output settings.junit_store_failure_output
-  pub junit_report_skipped : IsTracked Tells id_of
-      rule.junit_report_skipped key.junit_report_skipped layers.overrides layers.chain
-      fallback.junit_report_skipped settings.junit_report_skipped
-  pub junit_flaky_fail_status : IsTracked Tells id_of
-      rule.junit_flaky_fail_status key.junit_flaky_fail_status layers.overrides layers.chain
-      fallback.junit_flaky_fail_status settings.junit_flaky_fail_status
+  pub run_extra_args : IsCommandSetting Tells layers key.run_extra_args_of own_key.run_extra_args_fallback
+      (settings.run_extra_args.0.now, settings.run_extra_args.1)
+  pub retries : IsTestSetting Tells layers key.retries_of test_key.retries_fallback settings.retries
+  pub flaky_result : IsTestSetting Tells layers key.flaky_result_of test_key.flaky_result_fallback settings.flaky_result
+  pub fail_weight : IsTestSetting Tells layers key.fail_weight_of test_key.fail_weight_fallback settings.fail_weight
+  pub slow_timeout : IsTestSetting Tells layers (slow_timeout_by mode) (slow_timeout_or mode) settings.slow_timeout
+  pub leak_timeout : IsTestSetting Tells layers key.leak_timeout_of test_key.leak_timeout_fallback settings.leak_timeout
+  pub test_group : IsRuleSetting Tells layers rule.test_group_of schedule_key.test_group_fallback
+      (group_of settings.test_group.0, settings.test_group.1)
+  pub success_output : IsReportSetting Tells layers key.success_output_of output_key.success_output_fallback
+      settings.success_output
+  pub failure_output : IsReportSetting Tells layers key.failure_output_of output_key.failure_output_fallback
+      settings.failure_output
+  pub junit_store_success_output : IsReportSetting Tells layers key.junit_store_success_output_of junit_key.junit_store_success_output_fallback
+      settings.junit_store_success_output
+  pub junit_store_failure_output : IsReportSetting Tells layers key.junit_store_failure_output_of junit_key.junit_store_failure_output_fallback
+      settings.junit_store_failure_output
+  pub junit_report_skipped : IsReportSetting Tells layers key.junit_report_skipped_of junit_key.junit_report_skipped_fallback
+      settings.junit_report_skipped
+  pub junit_flaky_fail_status : IsReportSetting Tells layers key.junit_flaky_fail_status_of junit_key.junit_flaky_fail_status_fallback
+      settings.junit_flaky_fail_status
 
 -- each setting of the one is that of the other
 pub record AreSame {S T : Type 0} (one : TestSettings S) (other : TestSettings T) : Type 0 where

@@ -2,11 +2,12 @@
 ghost use Rattle.nextest_config_resolution_settings.specs.Laws.{OneSetting, SameSettings, SameSources, SomeSettings};
 ghost use Rattle.nextest_config_resolution_settings.specs.RuleLaws.{LeastIsNearest, NearestIsLeast, NoneIsLeast, OneHeld, OneLeast, SomeHeld};
 
-use crate::layers::{Rule, Sets, Setting};
+use crate::layers::{Rule, Sets};
 use crate::source::TrackSource;
+use nextest_config_resolution_keys::ConfigKey;
 
 /// A setting has at most one value, and that comes from one place.
-pub fn one_setting<S: Setting, R: Sets<S> + Rule, P: Sets<S>>()
+pub fn one_setting<K: ConfigKey, R: Sets<K> + Rule, P: Sets<K>>()
     ensures { OneSetting R.id R.value P.value }
 {}
 
@@ -26,13 +27,13 @@ pub fn held_rules<R: Rule>()
 
 /// The nearest of the rules that hold is the least rule that holds and sets a value, and none of
 /// them sets one exactly if there is no such rule.
-pub fn least_rule<S: Setting, R: Sets<S> + Rule>()
+pub fn least_rule<K: ConfigKey, R: Sets<K> + Rule>()
     ensures nearest { NearestIsLeast R.value }
     ensures least { LeastIsNearest R.value }
     ensures none { NoneIsLeast R.value }
 {}
 
 /// There is at most one least rule, and one value that it sets.
-pub fn one_least<S: Setting, R: Sets<S> + Rule>()
+pub fn one_least<K: ConfigKey, R: Sets<K> + Rule>()
     ensures { OneLeast R.value }
 {}

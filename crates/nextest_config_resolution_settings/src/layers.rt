@@ -4,29 +4,48 @@ ghost use Rattle.std.specs.Option.{option_copied};
 ghost use Rattle.nextest_config_resolution_settings.specs.Nearest.{IsNearest, IsOfProfiles, IsSetting, SetsNone, an_override, lent_layers, setting_source_of};
 
 use crate::source::SettingSource;
-use nextest_config_resolution_overrides::OverrideId;
+use nextest_config_resolution_keys::{ConfigKey, HasValues, ListedKey, ProfileConfig, get_value};
+use nextest_config_resolution_overrides::{OverrideConfig, OverrideId, PlacedOverride};
 
-/// A setting, as the word for what is looked for.
-pub trait Setting {
-    /// Its values.
-    type Value;
-}
-
-/// A layer of a configuration, which may set a setting.
-pub trait Sets<S: Setting> {
+/// A layer of a configuration, which may set the value of a key.
+pub trait Sets<K: ConfigKey> {
     ghost use Rattle.std.specs.Prelude.{◌≡◌, Option};
     ghost use Rattle.std.specs.Option.{option_copied};
 
-    ghost value: { Self → Option S.Value };
+    ghost value: { Self → Option K.Value };
 
     /// The value that it sets, if it sets one.
-    fn value(&self) -> Option<&S::Value>
+    fn value(&self) -> Option<&K::Value>
         ensures { option_copied result ≡ value self.now };
 }
 
-/// The place of the nearest layer that sets a setting, and the value that it sets: of the first of
-/// a list. `None` where no layer sets it.
-pub fn nearest<'c, S: Setting, L: Sets<S>>(layers: &[&'c L]) -> Option<(usize, &'c S::Value)>
+// A profile sets what its table has for the key.
+impl<K: ListedKey> Sets<K> for ProfileConfig
+where
+    ProfileConfig: HasValues<K::List>,
+{
+    ghost value = { λ it. K.List.value (⟦<ProfileConfig as HasValues<K::List>>⟧.values it) };
+
+    fn value(&self) -> Option<&K::Value> {
+        get_value::<K, ProfileConfig>(self)
+    }
+}
+
+// And so does an override.
+impl<K: ListedKey> Sets<K> for PlacedOverride
+where
+    OverrideConfig: HasValues<K::List>,
+{
+    ghost value = { λ it. K.List.value (⟦<OverrideConfig as HasValues<K::List>>⟧.values it.config) };
+
+    fn value(&self) -> Option<&K::Value> {
+        get_value::<K, OverrideConfig>(&self.config)
+    }
+}
+
+/// The place of the nearest layer that sets the value of a key, and that value: of the first of a
+/// list. `None` where no layer sets it.
+pub fn nearest<'c, K: ConfigKey, L: Sets<K>>(layers: &[&'c L]) -> Option<(usize, &'c K::Value)>
     ensures found { IfSome result
         (λ found. IsNearest L.value (lent_layers layers.now) found.0 found.1.now) }
     ensures none { IfNone result (SetsNone L.value (lent_layers layers.now)) }
@@ -62,20 +81,20 @@ pub trait Rule {
         ensures { result.now ≡ id self.now };
 }
 
-/// The value of a setting over rules, then profiles, and where it comes from: that of the nearest
+/// The value of a key over rules, then profiles, and where it comes from: that of the nearest
 /// rule that sets it, else that of the nearest profile that does. `None` where no layer sets it,
 /// and then whatever the fallback is holds.
-pub fn find_setting<'c, S: Setting, R: Sets<S> + Rule, P: Sets<S>>(
+pub fn find_setting<'c, K: ConfigKey, R: Sets<K> + Rule, P: Sets<K>>(
     rules: &[&'c R],
     profiles: &[&'c P],
-) -> (Option<&'c S::Value>, SettingSource<'c>)
-    ensures { (fallback : S.Value)
+) -> (Option<&'c K::Value>, SettingSource<'c>)
+    ensures { (fallback : K.Value)
         → IsSetting R.id R.value P.value (lent_layers rules.now) (lent_layers profiles.now) fallback
         (unwrap_or (option_copied result.0) fallback) (setting_source_of result.1) }
 {
-    match nearest::<S, R>(rules) {
+    match nearest::<K, R>(rules) {
         Some((place, value)) => (Some(value), source_of(rules[place])),
-        None => find_in_profiles::<S, P>(profiles),
+        None => find_in_profiles::<K, P>(profiles),
     }
 }
 
@@ -86,16 +105,16 @@ fn source_of<'c, R: Rule>(rule: &'c R) -> SettingSource<'c>
     SettingSource::Override(rule.id())
 }
 
-/// The value of a setting over profiles, and where it comes from, where no rule sets it: that of
+/// The value of a key over profiles, and where it comes from, where no rule sets it: that of
 /// the nearest profile that does. `None` where none of them sets it, and then whatever the fallback
 /// is holds.
-pub fn find_in_profiles<'c, 'p, S: Setting, P: Sets<S>>(
+pub fn find_in_profiles<'c, 'p, K: ConfigKey, P: Sets<K>>(
     profiles: &[&'c P],
-) -> (Option<&'c S::Value>, SettingSource<'p>)
-    ensures { (fallback : S.Value) → IsOfProfiles P.value (lent_layers profiles.now) fallback
+) -> (Option<&'c K::Value>, SettingSource<'p>)
+    ensures { (fallback : K.Value) → IsOfProfiles P.value (lent_layers profiles.now) fallback
         (unwrap_or (option_copied result.0) fallback) (setting_source_of result.1) }
 {
-    match nearest::<S, P>(profiles) {
+    match nearest::<K, P>(profiles) {
         Some((place, value)) => (Some(value), SettingSource::Profile(place)),
         None => (None, SettingSource::Default),
     }

@@ -4,37 +4,37 @@ ghost use Rattle.std.specs.Option.{option_copied};
 ghost use Rattle.nextest_config_resolution_settings.specs.Nearest.{lent_layers};
 ghost use Rattle.nextest_config_resolution_settings.specs.Profile.{MaySet, OfProfiles};
 
-use crate::layers::{Sets, Setting, find_in_profiles, nearest};
+use crate::layers::{Sets, find_in_profiles, nearest};
+use nextest_config_resolution_keys::{ConfigKey, HasFallback};
 
 /// The value that profiles have of a setting, lent: that of the nearest that sets it. `None` where
 /// none of them does, and then whatever the fallback is holds.
-pub fn of_profiles<'c, S: Setting, P: Sets<S>>(profiles: &[&'c P]) -> Option<&'c S::Value>
-    ensures { (fallback : S.Value) → OfProfiles P.value (lent_layers profiles.now) fallback
+pub fn of_profiles<'c, K: ConfigKey, P: Sets<K>>(profiles: &[&'c P]) -> Option<&'c K::Value>
+    ensures { (fallback : K.Value) → OfProfiles P.value (lent_layers profiles.now) fallback
         (unwrap_or (option_copied result) fallback) }
 {
-    find_in_profiles::<S, P>(profiles).0
+    find_in_profiles::<K, P>(profiles).0
 }
 
-/// The value that profiles have of a setting, lent: that of the nearest that sets it, else the
-/// fallback.
-pub fn value_or<'c, S: Setting, P: Sets<S>>(
-    profiles: &[&'c P],
-    fallback: &'c S::Value,
-) -> &'c S::Value
-    ensures { OfProfiles P.value (lent_layers profiles.now) fallback.now result.now }
+/// The value that profiles have of a setting: that of the nearest that sets it, else the fallback of
+/// its key.
+pub fn value_or_fallback<K: HasFallback, P: Sets<K>>(profiles: &[&P]) -> K::Value
+where
+    K::Value: Copy,
+    ensures { OfProfiles P.value (lent_layers profiles.now) K.fallback result }
 {
-    match of_profiles::<S, P>(profiles) {
-        Some(value) => value,
-        None => fallback,
+    match of_profiles::<K, P>(profiles) {
+        Some(value) => *value,
+        None => K::fallback(),
     }
 }
 
 /// The value that the nearest of some profiles sets for a setting, lent. `None` where none of them
 /// sets it.
-pub fn set_by<'c, S: Setting, P: Sets<S>>(profiles: &[&'c P]) -> Option<&'c S::Value>
+pub fn set_by<'c, K: ConfigKey, P: Sets<K>>(profiles: &[&'c P]) -> Option<&'c K::Value>
     ensures { MaySet P.value (lent_layers profiles.now) (option_copied result) }
 {
-    match nearest::<S, P>(profiles) {
+    match nearest::<K, P>(profiles) {
         Some((_, value)) => Some(value),
         None => None,
     }

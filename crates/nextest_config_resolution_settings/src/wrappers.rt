@@ -4,12 +4,13 @@ ghost use Rattle.std.specs.Option.{option_copied};
 ghost use Rattle.nextest_config_resolution_settings.specs.Nearest.{lent_layers};
 ghost use Rattle.nextest_config_resolution_settings.specs.Wrappers as words;
 
-use crate::keys::{ListWrapperKey, RunWrapperKey};
-use crate::layers::{InProfile, Sets, Setting, nearest};
+use crate::layers::{InProfile, Sets, nearest};
 use crate::list_settings::ListSettings;
 use crate::source::{SettingSource, TrackSource};
+use nextest_config_resolution_keys::ConfigKey;
 use nextest_config_resolution_scripts::{
-    NamedScript, PlacedScriptRule, ScriptId, WrapperScriptConfig, script_named,
+    ListWrapperKey, NamedScript, PlacedScriptRule, RunWrapperKey, ScriptId, WrapperScriptConfig,
+    script_named,
 };
 
 impl InProfile for PlacedScriptRule {
@@ -44,16 +45,16 @@ impl Sets<ListWrapperKey> for PlacedScriptRule {
 
 // The wrapper script that the nearest of some script rules names which names one, and what is kept
 // of where it is taken from.
-pub(crate) fn wrapper_by<'c, S: Setting<Value = ScriptId>, T: TrackSource<'c>>(
+pub(crate) fn wrapper_by<'c, K: ConfigKey<Value = ScriptId>, T: TrackSource<'c>>(
     rules: &[&'c PlacedScriptRule],
     wrappers: &'c [NamedScript<WrapperScriptConfig>],
 ) -> (Option<&'c WrapperScriptConfig>, T)
 where
-    PlacedScriptRule: Sets<S>,
-    ensures { words.IsTrackedWrapper T.tells wrappers.now ⟦<PlacedScriptRule as Sets<S>>⟧.value
+    PlacedScriptRule: Sets<K>,
+    ensures { words.IsTrackedWrapper T.tells wrappers.now ⟦<PlacedScriptRule as Sets<K>>⟧.value
         (lent_layers rules.now) (option_copied result.0, result.1) }
 {
-    match nearest::<S, PlacedScriptRule>(rules) {
+    match nearest::<K, PlacedScriptRule>(rules) {
         Some((place, id)) => {
             let found = script_named(wrappers, id);
             (found, T::track(SettingSource::Script(&rules[place].id)))

@@ -1,4 +1,4 @@
 use Rattle.nextest_config_resolution_keys.proofs.laws.refused_for.Goals as goal
 
 pub returns : goal.returns
-returns g c = g.met.S.KeyList.refuses
+returns g c = g.S.KeyList.refuses
