@@ -41,18 +41,20 @@ pub use Rattle.nextest_config_resolution_tree.specs.Tree
 -- what files and profiles say, and how profiles inherit
 pub use Rattle.nextest_config_resolution_keys.specs.Keys
 pub use Rattle.nextest_config_resolution_keys.specs.Rows
-pub use Rattle.nextest_config_resolution_keys.specs.OwnKeys
-pub use Rattle.nextest_config_resolution_keys.specs.RunKeys
-pub use Rattle.nextest_config_resolution_keys.specs.TestKeys
-pub use Rattle.nextest_config_resolution_keys.specs.OutputKeys
-pub use Rattle.nextest_config_resolution_keys.specs.BenchKeys
-pub use Rattle.nextest_config_resolution_keys.specs.JunitKeys
+pub use Rattle.nextest_config_resolution_keys.specs.Own as KeysOfProfiles
+pub use Rattle.nextest_config_resolution_keys.specs.Run as KeysOfRuns
+pub use Rattle.nextest_config_resolution_keys.specs.Test as KeysOfTests
+pub use Rattle.nextest_config_resolution_keys.specs.Output as KeysOfOutput
+pub use Rattle.nextest_config_resolution_keys.specs.Bench as KeysOfBenchmarks
+pub use Rattle.nextest_config_resolution_keys.specs.Junit as KeysOfReports
+pub use Rattle.nextest_config_resolution_keys.specs.Lists as KeyLists
+pub use Rattle.nextest_config_resolution_keys.specs.Modes as KeysByMode
 pub use Rattle.nextest_config_resolution_keys.specs.Items
 pub use Rattle.nextest_config_resolution_keys.specs.Profile
 pub use Rattle.nextest_config_resolution_keys.specs.File
-pub use Rattle.nextest_config_resolution_overrides.specs.ConditionKeys
+pub use Rattle.nextest_config_resolution_overrides.specs.Condition as KeysOfConditions
+pub use Rattle.nextest_config_resolution_overrides.specs.Schedule as KeysOfSchedules
 pub use Rattle.nextest_config_resolution_overrides.specs.RuleKeys as KeysOfRules
-pub use Rattle.nextest_config_resolution_overrides.specs.ReportKeys
 pub use Rattle.nextest_config_resolution_overrides.specs.Platforms as KeysOfPlatforms
 pub use Rattle.nextest_config_resolution_overrides.specs.Groups
 pub use Rattle.nextest_config_resolution_overrides.specs.Overrides
@@ -72,14 +74,11 @@ pub use Rattle.nextest_config_resolution_scripts.specs.Laws as ScriptLaws
 pub use Rattle.nextest_config_resolution_scripts.specs.Rules as ScriptRules
 pub use Rattle.nextest_config_resolution_scripts.specs.Scripts
 -- settings, and what is built in
-pub use Rattle.nextest_config_resolution_settings.specs.Fallbacks
-pub use Rattle.nextest_config_resolution_settings.specs.Keys as SettingKeys
 pub use Rattle.nextest_config_resolution_settings.specs.Laws as SettingLaws
 pub use Rattle.nextest_config_resolution_settings.specs.Layers as SettingLayers
 pub use Rattle.nextest_config_resolution_settings.specs.Default as DefaultFilters
 pub use Rattle.nextest_config_resolution_settings.specs.Nearest
 pub use Rattle.nextest_config_resolution_settings.specs.Profile as ProfileSettings
-pub use Rattle.nextest_config_resolution_settings.specs.RuleKeys
 pub use Rattle.nextest_config_resolution_settings.specs.RuleLaws
 pub use Rattle.nextest_config_resolution_settings.specs.Rules
 pub use Rattle.nextest_config_resolution_settings.specs.TestSettings

@@ -11,7 +11,7 @@ use crate::languages::{FilterPurpose, Languages};
 use crate::load_error::LoadError;
 use crate::loaded_config::NamedProfile;
 use crate::refusing::bad_filter;
-use nextest_config_resolution_keys::{DefaultFilterKey, OwnKeys, ProfileConfig, get_value};
+use nextest_config_resolution_keys::{DefaultFilterKey, get_value};
 use nextest_text::Listing;
 use std::alloc::Global;
 
@@ -43,7 +43,7 @@ fn default_of<R: Languages>(
         R.is_spec R.is_too_deep (default_check profile.now.name text)
         (IsReadAs (R.is_filter cx.now purpose.Default) text) result }
 {
-    match get_value::<DefaultFilterKey, _, OwnKeys, ProfileConfig>(&profile.config) {
+    match get_value::<DefaultFilterKey, _>(&profile.config) {
         None => Ok(None),
         Some(text) => match R::read_filter(alloc, cx, FilterPurpose::Default, text)? {
             Some(filter) => Ok(Some(filter)),

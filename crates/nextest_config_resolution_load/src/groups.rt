@@ -13,7 +13,7 @@ use crate::placed_file::SourceRules;
 use crate::refusing::unknown_group;
 use nextest_config_elements_identifiers::TestGroup;
 use nextest_config_resolution_keys::get_value;
-use nextest_config_resolution_overrides::{NamedGroup, OverrideId, RuleKeys, TestGroupKey};
+use nextest_config_resolution_overrides::{NamedGroup, OverrideId, TestGroupKey};
 use std::alloc::Global;
 use std::collections::BTreeSet;
 
@@ -52,7 +52,7 @@ fn check_own<R: Languages>(
             cx,
             names,
             &rule.placed.id,
-            get_value::<TestGroupKey, _, RuleKeys, _>(&rule.placed.config),
+            get_value::<TestGroupKey, _>(&rule.placed.config),
         )?;
     }
     Ok(())

@@ -1,7 +1,7 @@
 // What a configuration comes to.
 use crate::loaded_rule::{LoadedOverride, LoadedScriptRule};
 use nextest_config_resolution_inheritance::Inherits;
-use nextest_config_resolution_keys::{InheritsKey, OwnKeys, ProfileConfig, get_value};
+use nextest_config_resolution_keys::{InheritsKey, ProfileConfig, get_value};
 use nextest_config_resolution_overrides::NamedGroup;
 use nextest_config_resolution_scripts::ScriptConfig;
 use nextest_text::{Listing, Text};
@@ -33,7 +33,7 @@ impl Inherits for NamedProfile {
     }
 
     fn inherits(&self) -> Option<&str> {
-        match get_value::<InheritsKey, _, OwnKeys, ProfileConfig>(&self.config) {
+        match get_value::<InheritsKey, _>(&self.config) {
             Some(parent) => Some(parent.as_str()),
             None => None,
         }

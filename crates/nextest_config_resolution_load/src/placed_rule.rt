@@ -9,7 +9,7 @@ ghost use Rattle.nextest_config_resolution_load.specs.declared.rule_id.RuleId.{R
 use crate::rule_id::RuleRef;
 use nextest_config_resolution_keys::{DefaultFilterKey, get_value};
 use nextest_config_resolution_overrides::{
-    ConditionKeys, FilterKey, OverridePlatforms, PlacedOverride, PlatformKey, RuleKeys,
+    FilterKey, OverridePlatforms, PlacedOverride, PlatformKey,
 };
 use nextest_config_resolution_scripts::PlacedScriptRule;
 use nextest_text::Text;
@@ -57,10 +57,10 @@ impl PlacedRule for PlacedOverride {
 
     fn texts(&self) -> RuleTexts<'_> {
         RuleTexts {
-            host: host_in(get_value::<PlatformKey, _, ConditionKeys, _>(&self.config)),
-            target: target_in(get_value::<PlatformKey, _, ConditionKeys, _>(&self.config)),
-            filter: get_value::<FilterKey, _, ConditionKeys, _>(&self.config),
-            default_filter: get_value::<DefaultFilterKey, _, RuleKeys, _>(&self.config),
+            host: host_in(get_value::<PlatformKey, _>(&self.config)),
+            target: target_in(get_value::<PlatformKey, _>(&self.config)),
+            filter: get_value::<FilterKey, _>(&self.config),
+            default_filter: get_value::<DefaultFilterKey, _>(&self.config),
         }
     }
 

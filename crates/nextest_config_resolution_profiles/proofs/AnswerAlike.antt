@@ -36,7 +36,8 @@ use Rattle.nextest_config_resolution_profiles.proofs.SameChain.{same_chain, same
 use Rattle.nextest_config_resolution_scripts.specs.declared.script_config.ScriptConfig.{ScriptConfig}
 use Rattle.nextest_config_resolution_scripts.specs.declared.setup_script.SetupScriptConfig.{SetupScriptConfig}
 use Rattle.nextest_config_resolution_scripts.specs.declared.wrapper_script.WrapperScriptConfig.{WrapperScriptConfig}
-use Rattle.nextest_config_resolution_settings.specs.Keys as key
+use Rattle.nextest_config_resolution_keys.specs.Lists as key
+use Rattle.nextest_config_resolution_settings.specs.Layers.{in_command}
 use Rattle.nextest_config_resolution_settings.specs.Layers.{Layers}
 use Rattle.nextest_config_resolution_settings.specs.Nearest.{IsNearest, Source}
 use Rattle.nextest_config_resolution_settings.specs.Rules.{IsLeast, NoneHoldsAndSets, profile_of, rules_of, script_profile_of}
@@ -293,7 +294,7 @@ module _ {F Cx : Type 0} {IsParsed : Cx → FiltersetKind → KnownGroups → Li
       → other_names ≡ names → other_chain ≡ chain → (here : IsDefaultFilterOf profiles filters names chain it) → (there : IsDefaultFilterOf others more other_names other_chain second)
       → Is purpose.Default here.text it.filter.now → Is purpose.Default there.text second.filter.now → Defaults it second
   early_alike profiles others filters more names other_names chain other_chain it second same_names same_values here there read also =
-      let same = one_nearest here.nearest (subst (λ (values : List ProfileConfig). IsNearest key.default_filter values there.place there.text) same_values there.nearest) in
+      let same = one_nearest here.nearest (subst (λ (values : List ProfileConfig). IsNearest (in_command key.default_filter_of) values there.place there.text) same_values there.nearest) in
       record {
         filter = read_alike purpose.Default there.text it.filter.now second.filter.now (subst (λ (text : List ℕ). Is purpose.Default text it.filter.now) same.0 read) also;
         profile = same_Some second.profile.now it.profile.now

@@ -2,7 +2,7 @@
 use Rattle.std.proofs.Common.{◌≡◌, ℕ, ◌+◌, ◌<◌, ◌≤◌, Bool, List, [], ◌∷◌, ◌++◌, Option, None, length, get_or, map, take, refl, sym, ap, ◌∙◌, subst, append-nil, inl, inr, arith}
 use Rattle.std.specs.List.{AllByRecursion}
 use Rattle.std.proofs.lemmas.List.{length-map, map-append, take_all}
-use Rattle.std.proofs.lemmas.List.Elements.{All-from_recursion, recursion_from_All}
+use Rattle.std.proofs.lemmas.List.Elements.{All-from_recursion, All-nil, recursion_from_All}
 use Rattle.nextest_config_elements_identifiers.specs.declared.test_group.TestGroup.{TestGroup}
 use Rattle.nextest_config_elements_identifiers.specs.declared.test_group.TestGroup.TheVariants as group
 use Rattle.nextest_config_elements_choices.specs.declared.run_mode.NextestRunMode.{NextestRunMode}
@@ -17,11 +17,11 @@ use Rattle.nextest_config_resolution_profiles.proofs.PutOn.{division_has}
 use Rattle.nextest_config_resolution_profiles.specs.RuleLaws.{EarlyDefault, GroupOfSettings, NoRules, OneHeld, OneScriptsHeld, SameSettingsFor, SameSourcesFor}
 use Rattle.nextest_config_resolution_profiles.specs.declared.chain_rule.ChainRule.{ChainRule}
 use Rattle.nextest_config_resolution_scripts.specs.declared.script_rule.PlacedScriptRule.{PlacedScriptRule}
-use Rattle.nextest_config_resolution_settings.specs.Keys as key
 use Rattle.nextest_config_resolution_settings.specs.Nearest.{IsNearest, IsSetting, of_fallback, of_profiles, of_rule, SetsNone, Source, no_layer}
-use Rattle.nextest_config_resolution_settings.specs.RuleKeys as rule_key
+use Rattle.nextest_config_resolution_overrides.specs.RuleKeys.{test_group_of}
 use Rattle.nextest_config_resolution_settings.specs.Rules.{AreHeld, HoldsAndSets, IsLeast, NoneHoldsAndSets, holds_too, id_of, left_out, none_left}
 use Rattle.nextest_config_resolution_settings.specs.TestSettings.{AreSettings}
+use Rattle.nextest_config_resolution_settings.specs.Layers.{in_rule}
 use Rattle.nextest_config_resolution_settings.specs.declared.test_settings.TestSettings.{TestSettings}
 use Rattle.nextest_config_resolution_settings.proofs.Least.{least_is_nearest, none_is_least}
 use Rattle.nextest_config_resolution_settings.proofs.Sourced.{same_settings, same_sources}
@@ -168,23 +168,23 @@ nearest_mapped set_by f xs place value it = record {
   sets = it.sets;
 }
 
--- as a setting of the rules that hold
-as_setting : {F S P : Type 0} (Holding : OverrideOn F S → Type 0) (by_profile : P → Option TestGroup) (profiles : List P) (rules held : List (OverrideOn F S)) (it : TestGroup)
-    → ((profile : P) → by_profile profile ≡ None) → AreHeld Holding rules held → IsGroupBy Holding rules it
-    → (from : Source) × IsSetting id_of rule_key.test_group by_profile (map placed_of held) profiles group.Global it from
-as_setting Holding by_profile profiles rules held it unset are (inl (rule, least)) =
+-- as a setting of the rules that hold, which overrides alone set
+as_setting : {F S : Type 0} (Holding : OverrideOn F S → Type 0) (rules held : List (OverrideOn F S)) (it : TestGroup)
+    → AreHeld Holding rules held → IsGroupBy Holding rules it
+    → (from : Source) × IsSetting id_of (in_rule test_group_of) (in_rule test_group_of) (map placed_of held) [] group.Global it from
+as_setting Holding rules held it are (inl (rule, least)) =
     let found = least_is_nearest Holding group_set rules held rule it are least in
-    let nearest = nearest_mapped rule_key.test_group placed_of held found.place it found.nearest in
+    let nearest = nearest_mapped (in_rule test_group_of) placed_of held found.place it found.nearest in
     (_, of_rule it (id_of nearest.layer) (record { place = found.place; nearest = nearest; named = refl }))
-as_setting Holding by_profile profiles rules held it unset are (inr (none, is)) =
-    let sets_none = none_mapped rule_key.test_group placed_of held ((none_is_least Holding group_set rules held are).1 none) in (
+as_setting Holding rules held it are (inr (none, is)) =
+    let sets_none = none_mapped (in_rule test_group_of) placed_of held ((none_is_least Holding group_set rules held are).1 none) in (
       no_layer,
-      subst (λ (value : TestGroup). IsSetting id_of rule_key.test_group by_profile (map placed_of held) profiles group.Global value no_layer) (sym is)
-          (of_profiles group.Global no_layer sets_none (of_fallback (λ k d within. unset (get_or profiles k d)))),
+      subst (λ (value : TestGroup). IsSetting id_of (in_rule test_group_of) (in_rule test_group_of) (map placed_of held) [] group.Global value no_layer) (sym is)
+          (of_profiles group.Global no_layer sets_none (of_fallback (All-nil (λ rule. in_rule test_group_of rule ≡ None)))),
     )
 
 pub group_of_settings : {F T : Type 0} (OnTest : F → F → Test → Bool → Type 0) (S : Type 0) (Tells : T → Source → Type 0) → GroupOfSettings OnTest S Tells
 group_of_settings OnTest S Tells profile mode test settings found are is =
     let told = are.settings.test_group in
-    let set = as_setting (Holds OnTest profile.default_filter.filter.now test) key.test_group profile.chain profile.rules are.held found (λ it. refl) are.are is in
-    (one_setting id_of rule_key.test_group key.test_group (map placed_of are.held) profile.chain _ _ found told.from set.0 told.is set.1).0
+    let set = as_setting (Holds OnTest profile.default_filter.filter.now test) profile.rules are.held found are.are is in
+    (one_setting id_of (in_rule test_group_of) (in_rule test_group_of) (map placed_of are.held) [] _ _ found told.from set.0 told.is set.1).0

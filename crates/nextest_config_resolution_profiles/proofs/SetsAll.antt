@@ -17,19 +17,20 @@ use Rattle.nextest_config_resolution_profiles.specs.Laws.{NeverFallsBack}
 use Rattle.nextest_config_resolution_profiles.proofs.DefaultKept.{HasBuiltIn, loaded_has, store_read, values_read}
 use Rattle.nextest_config_resolution_profiles.proofs.Ending.{set_at_end}
 use Rattle.nextest_config_resolution_profiles.proofs.OneProfile.{given, given_all}
-use Rattle.nextest_config_resolution_settings.specs.Keys as key
+use Rattle.nextest_config_resolution_keys.specs.Lists as key
+use Rattle.nextest_config_resolution_settings.specs.Layers.{in_command, in_own, in_report, in_test}
 use Rattle.nextest_config_resolution_settings.specs.Nearest.{SetsNone}
 use Rattle.nextest_config_resolution_sources.specs.declared.source.ConfigSource.{ConfigSource}
 use Rattle.nextest_config_elements_toml.specs.Reading.{Reading}
 use Rattle.nextest_config_resolution_keys.proofs.Read.{ReadsEach, inner_set, key_set}
-use Rattle.nextest_config_resolution_keys.specs.BenchKeys as bench_key
+use Rattle.nextest_config_resolution_keys.specs.Bench as bench_key
 use Rattle.nextest_config_resolution_keys.specs.File.{Named, default_filter_in}
-use Rattle.nextest_config_resolution_keys.specs.JunitKeys as junit_key
+use Rattle.nextest_config_resolution_keys.specs.Junit as junit_key
 use Rattle.nextest_config_resolution_keys.specs.Keys.{value_at}
-use Rattle.nextest_config_resolution_keys.specs.OutputKeys as output_key
-use Rattle.nextest_config_resolution_keys.specs.OwnKeys as own_key
-use Rattle.nextest_config_resolution_keys.specs.RunKeys as run_key
-use Rattle.nextest_config_resolution_keys.specs.TestKeys as test_key
+use Rattle.nextest_config_resolution_keys.specs.Output as output_key
+use Rattle.nextest_config_resolution_keys.specs.Own as own_key
+use Rattle.nextest_config_resolution_keys.specs.Run as run_key
+use Rattle.nextest_config_resolution_keys.specs.Test as test_key
 use Rattle.nextest_config_resolution_keys.specs.declared.profile_config.ProfileConfig.{ProfileConfig}
 use Rattle.nextest_config_elements_versions.specs.declared.feature.FeatureSet.{FeatureSet}
 
@@ -50,28 +51,28 @@ have_set all name read (Some it) has there = refl
 sets_each : (top : Members) (it : HasBuiltIn top) (value : ProfileConfig) → ReadsEach it.values value → (front : List ProfileConfig) → SetsEach (front ++ value ∷ [])
 sets_each top it value is front =
     record {
-      default_filter = itself key.default_filter (codes "default-filter") own_key.default_filter.reading is.default_filter refl;
-      run_extra_args = itself key.run_extra_args (codes "run-extra-args") own_key.run_extra_args.reading is.run_extra_args refl;
-      fail_fast = itself key.fail_fast (codes "fail-fast") run_key.fail_fast.reading is.fail_fast refl;
-      test_threads = itself key.test_threads (codes "test-threads") run_key.test_threads.reading is.test_threads refl;
-      run_global_timeout = itself key.run_global_timeout (codes "global-timeout") run_key.global_timeout.reading is.global_timeout refl;
-      bench_global_timeout = in_bench key.bench_global_timeout (codes "global-timeout") bench_key.bench_global_timeout.reading is.bench_global_timeout refl;
-      fail_weight = itself key.fail_weight (codes "fail-weight") test_key.fail_weight.reading is.fail_weight refl;
-      flaky_result = itself key.flaky_result (codes "flaky-result") test_key.flaky_result.reading is.flaky_result refl;
-      leak_timeout = itself key.leak_timeout (codes "leak-timeout") test_key.leak_timeout.reading is.leak_timeout refl;
-      retries = itself key.retries (codes "retries") test_key.retries.reading is.retries refl;
-      threads_required = itself key.threads_required (codes "threads-required") test_key.threads_required.reading is.threads_required refl;
-      test_slow_timeout = itself key.test_slow_timeout (codes "slow-timeout") test_key.slow_timeout.reading is.slow_timeout refl;
-      bench_slow_timeout = in_bench key.bench_slow_timeout (codes "slow-timeout") bench_key.bench_slow_timeout.reading is.bench_slow_timeout refl;
-      failure_output = itself key.failure_output (codes "failure-output") output_key.failure_output.reading is.failure_output refl;
-      success_output = itself key.success_output (codes "success-output") output_key.success_output.reading is.success_output refl;
-      status_level = itself key.status_level (codes "status-level") output_key.status_level.reading is.status_level refl;
-      final_status_level = itself key.final_status_level (codes "final-status-level") output_key.final_status_level.reading is.final_status_level refl;
-      junit_report_name = in_junit key.junit_report_name (codes "report-name") junit_key.junit_report_name.reading is.junit_report_name refl;
-      junit_store_success_output = in_junit key.junit_store_success_output (codes "store-success-output") junit_key.junit_store_success_output.reading is.junit_store_success_output refl;
-      junit_store_failure_output = in_junit key.junit_store_failure_output (codes "store-failure-output") junit_key.junit_store_failure_output.reading is.junit_store_failure_output refl;
-      junit_report_skipped = in_junit key.junit_report_skipped (codes "report-skipped") junit_key.junit_report_skipped.reading is.junit_report_skipped refl;
-      junit_flaky_fail_status = in_junit key.junit_flaky_fail_status (codes "flaky-fail-status") junit_key.junit_flaky_fail_status.reading is.junit_flaky_fail_status refl;
+      default_filter = itself (in_command key.default_filter_of) (codes "default-filter") own_key.default_filter.reading is.default_filter refl;
+      run_extra_args = itself (in_command key.run_extra_args_of) (codes "run-extra-args") own_key.run_extra_args.reading is.run_extra_args refl;
+      fail_fast = itself (in_own key.fail_fast_of) (codes "fail-fast") run_key.fail_fast.reading is.fail_fast refl;
+      test_threads = itself (in_own key.test_threads_of) (codes "test-threads") run_key.test_threads.reading is.test_threads refl;
+      run_global_timeout = itself (in_own key.global_timeout_of) (codes "global-timeout") run_key.global_timeout.reading is.global_timeout refl;
+      bench_global_timeout = in_bench (in_own key.bench_global_timeout_of) (codes "global-timeout") bench_key.bench_global_timeout.reading is.bench_global_timeout refl;
+      fail_weight = itself (in_test key.fail_weight_of) (codes "fail-weight") test_key.fail_weight.reading is.fail_weight refl;
+      flaky_result = itself (in_test key.flaky_result_of) (codes "flaky-result") test_key.flaky_result.reading is.flaky_result refl;
+      leak_timeout = itself (in_test key.leak_timeout_of) (codes "leak-timeout") test_key.leak_timeout.reading is.leak_timeout refl;
+      retries = itself (in_test key.retries_of) (codes "retries") test_key.retries.reading is.retries refl;
+      threads_required = itself (in_test key.threads_required_of) (codes "threads-required") test_key.threads_required.reading is.threads_required refl;
+      test_slow_timeout = itself (in_test key.slow_timeout_of) (codes "slow-timeout") test_key.slow_timeout.reading is.slow_timeout refl;
+      bench_slow_timeout = in_bench (in_test key.bench_slow_timeout_of) (codes "slow-timeout") bench_key.bench_slow_timeout.reading is.bench_slow_timeout refl;
+      failure_output = itself (in_report key.failure_output_of) (codes "failure-output") output_key.failure_output.reading is.failure_output refl;
+      success_output = itself (in_report key.success_output_of) (codes "success-output") output_key.success_output.reading is.success_output refl;
+      status_level = itself (in_own key.status_level_of) (codes "status-level") output_key.status_level.reading is.status_level refl;
+      final_status_level = itself (in_own key.final_status_level_of) (codes "final-status-level") output_key.final_status_level.reading is.final_status_level refl;
+      junit_report_name = in_junit (in_own key.junit_report_name_of) (codes "report-name") junit_key.junit_report_name.reading is.junit_report_name refl;
+      junit_store_success_output = in_junit (in_report key.junit_store_success_output_of) (codes "store-success-output") junit_key.junit_store_success_output.reading is.junit_store_success_output refl;
+      junit_store_failure_output = in_junit (in_report key.junit_store_failure_output_of) (codes "store-failure-output") junit_key.junit_store_failure_output.reading is.junit_store_failure_output refl;
+      junit_report_skipped = in_junit (in_report key.junit_report_skipped_of) (codes "report-skipped") junit_key.junit_report_skipped.reading is.junit_report_skipped refl;
+      junit_flaky_fail_status = in_junit (in_report key.junit_flaky_fail_status_of) (codes "flaky-fail-status") junit_key.junit_flaky_fail_status.reading is.junit_flaky_fail_status refl;
     }
   where
     itself : {A : Type 0} (set_by : ProfileConfig → Option A) (name : List ℕ) (reading : Data → Reading A) → value_at (name ∷ []) reading it.values ≡ Ok (set_by value)
@@ -107,10 +108,10 @@ ends_with_default profiles value found name chain it =
 
 -- so that each sets a default filter where `default` does
 pub chain_sets_filter : (profiles : List Named) (value : ProfileConfig) (text : List ℕ) → values_of profiles default ≡ Some value → default_filter_in value ≡ Some text
-    → (name : Name) (chain : List ProfileConfig) → IsChainOf profiles name chain → ¬ SetsNone key.default_filter chain
+    → (name : Name) (chain : List ProfileConfig) → IsChainOf profiles name chain → ¬ SetsNone (in_command key.default_filter_of) chain
 chain_sets_filter profiles value text found sets name chain it unset =
     let (front, is) = ends_with_default profiles value found name chain it in
-    set_at_end key.default_filter front value (ap is_some sets) (subst (SetsNone key.default_filter) is unset)
+    set_at_end (in_command key.default_filter_of) front value (ap is_some sets) (subst (SetsNone (in_command key.default_filter_of)) is unset)
 
 -- ---- configurations
 

@@ -7,7 +7,8 @@ use Rattle.nextest_config_resolution_inheritance.specs.Inheritance.{IsAccepted}
 use Rattle.nextest_config_resolution_inheritance.specs.Inherits.{parents_in}
 use Rattle.nextest_config_resolution_load.specs.Checks.{config_in}
 use Rattle.nextest_config_resolution_load.specs.File.{file_in}
-use Rattle.nextest_config_resolution_settings.specs.Keys as key
+use Rattle.nextest_config_resolution_keys.specs.Lists as key
+use Rattle.nextest_config_resolution_settings.specs.Layers.{in_command, in_own, in_report, in_test}
 use Rattle.nextest_config_resolution_settings.specs.Nearest.{SetsNone}
 use Rattle.nextest_config_resolution_keys.specs.File.{inherits_in}
 use Rattle.nextest_config_resolution_keys.specs.declared.profile_config.ProfileConfig.{ProfileConfig}
@@ -27,28 +28,28 @@ Accepted = IsAccepted (parents_in (λ named. named.0) (λ named. inherits_in nam
 
 -- each setting that has a fallback is set by a profile of a chain, and so is the default filter
 pub record SetsEach (chain : List ProfileConfig) : Type 0 where
-  pub default_filter : ¬ SetsNone key.default_filter chain
-  pub run_extra_args : ¬ SetsNone key.run_extra_args chain
-  pub fail_fast : ¬ SetsNone key.fail_fast chain
-  pub test_threads : ¬ SetsNone key.test_threads chain
-  pub run_global_timeout : ¬ SetsNone key.run_global_timeout chain
-  pub bench_global_timeout : ¬ SetsNone key.bench_global_timeout chain
-  pub fail_weight : ¬ SetsNone key.fail_weight chain
-  pub flaky_result : ¬ SetsNone key.flaky_result chain
-  pub leak_timeout : ¬ SetsNone key.leak_timeout chain
-  pub retries : ¬ SetsNone key.retries chain
-  pub threads_required : ¬ SetsNone key.threads_required chain
-  pub test_slow_timeout : ¬ SetsNone key.test_slow_timeout chain
-  pub bench_slow_timeout : ¬ SetsNone key.bench_slow_timeout chain
-  pub failure_output : ¬ SetsNone key.failure_output chain
-  pub success_output : ¬ SetsNone key.success_output chain
-  pub status_level : ¬ SetsNone key.status_level chain
-  pub final_status_level : ¬ SetsNone key.final_status_level chain
-  pub junit_report_name : ¬ SetsNone key.junit_report_name chain
-  pub junit_store_success_output : ¬ SetsNone key.junit_store_success_output chain
-  pub junit_store_failure_output : ¬ SetsNone key.junit_store_failure_output chain
-  pub junit_report_skipped : ¬ SetsNone key.junit_report_skipped chain
-  pub junit_flaky_fail_status : ¬ SetsNone key.junit_flaky_fail_status chain
+  pub default_filter : ¬ SetsNone (in_command key.default_filter_of) chain
+  pub run_extra_args : ¬ SetsNone (in_command key.run_extra_args_of) chain
+  pub fail_fast : ¬ SetsNone (in_own key.fail_fast_of) chain
+  pub test_threads : ¬ SetsNone (in_own key.test_threads_of) chain
+  pub run_global_timeout : ¬ SetsNone (in_own key.global_timeout_of) chain
+  pub bench_global_timeout : ¬ SetsNone (in_own key.bench_global_timeout_of) chain
+  pub fail_weight : ¬ SetsNone (in_test key.fail_weight_of) chain
+  pub flaky_result : ¬ SetsNone (in_test key.flaky_result_of) chain
+  pub leak_timeout : ¬ SetsNone (in_test key.leak_timeout_of) chain
+  pub retries : ¬ SetsNone (in_test key.retries_of) chain
+  pub threads_required : ¬ SetsNone (in_test key.threads_required_of) chain
+  pub test_slow_timeout : ¬ SetsNone (in_test key.slow_timeout_of) chain
+  pub bench_slow_timeout : ¬ SetsNone (in_test key.bench_slow_timeout_of) chain
+  pub failure_output : ¬ SetsNone (in_report key.failure_output_of) chain
+  pub success_output : ¬ SetsNone (in_report key.success_output_of) chain
+  pub status_level : ¬ SetsNone (in_own key.status_level_of) chain
+  pub final_status_level : ¬ SetsNone (in_own key.final_status_level_of) chain
+  pub junit_report_name : ¬ SetsNone (in_own key.junit_report_name_of) chain
+  pub junit_store_success_output : ¬ SetsNone (in_report key.junit_store_success_output_of) chain
+  pub junit_store_failure_output : ¬ SetsNone (in_report key.junit_store_failure_output_of) chain
+  pub junit_report_skipped : ¬ SetsNone (in_report key.junit_report_skipped_of) chain
+  pub junit_flaky_fail_status : ¬ SetsNone (in_report key.junit_flaky_fail_status_of) chain
 
 -- a chain that ends with the built-in `default` never comes to a fallback
 abbrev pub NoFallback : Type 0

@@ -5,8 +5,9 @@ use Rattle.nextest_config_resolution_overrides.specs.declared.groups.NamedGroup.
 use Rattle.nextest_config_resolution_profiles.specs.Early.{Early}
 use Rattle.nextest_config_resolution_profiles.specs.Platforms.{IsChosenDefault, OverrideOn, ScriptRuleOn, on_platforms}
 use Rattle.nextest_config_resolution_scripts.specs.declared.script_config.ScriptConfig.{ScriptConfig}
-use Rattle.nextest_config_resolution_settings.specs.Fallbacks as fallback
-use Rattle.nextest_config_resolution_settings.specs.Keys as key
+use Rattle.nextest_config_resolution_keys.specs.Lists as key
+use Rattle.nextest_config_resolution_settings.specs.Layers.{in_own, in_report}
+use Rattle.nextest_config_resolution_keys.specs.Junit as junit_key
 use Rattle.nextest_config_resolution_settings.specs.Nearest.{SetsNone}
 use Rattle.nextest_config_resolution_settings.specs.Profile.{IsSetTo, OfProfiles}
 use Rattle.nextest_config_resolution_settings.specs.declared.default_filter.CompiledDefaultFilter.{CompiledDefaultFilter}
@@ -44,14 +45,14 @@ inherits_of (profile ∷ parents) = inherits_in profile
 
 -- a report in JUnit's form, by what a chain sets
 pub record IsJunitOf (chain : List ProfileConfig) (config : JunitConfig) : Type 0 where
-  pub file : IsSetTo key.junit_path chain config.path.now
-  pub title : OfProfiles key.junit_report_name chain fallback.junit_report_name config.report_name.now
-  pub stores_success : OfProfiles key.junit_store_success_output chain fallback.junit_store_success_output config.store_success_output
-  pub stores_failure : OfProfiles key.junit_store_failure_output chain fallback.junit_store_failure_output config.store_failure_output
-  pub skipped : OfProfiles key.junit_report_skipped chain fallback.junit_report_skipped config.report_skipped
-  pub flaky : OfProfiles key.junit_flaky_fail_status chain fallback.junit_flaky_fail_status config.flaky_fail_status
+  pub file : IsSetTo (in_own key.junit_path_of) chain config.path.now
+  pub title : OfProfiles (in_own key.junit_report_name_of) chain junit_key.junit_report_name_fallback config.report_name.now
+  pub stores_success : OfProfiles (in_report key.junit_store_success_output_of) chain junit_key.junit_store_success_output_fallback config.store_success_output
+  pub stores_failure : OfProfiles (in_report key.junit_store_failure_output_of) chain junit_key.junit_store_failure_output_fallback config.store_failure_output
+  pub skipped : OfProfiles (in_report key.junit_report_skipped_of) chain junit_key.junit_report_skipped_fallback config.report_skipped
+  pub flaky : OfProfiles (in_report key.junit_flaky_fail_status_of) chain junit_key.junit_flaky_fail_status_fallback config.flaky_fail_status
 
 -- there is a report exactly if a profile of the chain sets its path
 abbrev pub MayHaveJunit : List ProfileConfig → Option JunitConfig → Type 0
-MayHaveJunit chain None = SetsNone key.junit_path chain
+MayHaveJunit chain None = SetsNone (in_own key.junit_path_of) chain
 MayHaveJunit chain (Some config) = IsJunitOf chain config

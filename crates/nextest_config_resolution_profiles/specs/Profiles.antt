@@ -1,44 +1,58 @@
 -- What the built-in configuration is read as.
 use Rattle.std.specs.Prelude.{[], ◌∷◌, codes, None, Some}
-use Rattle.nextest_config_elements_choices.specs.declared.run_mode.NextestRunMode.TheVariants as mode
 use Rattle.nextest_config_resolution_load.specs.Checks.{MergedConfig}
 use Rattle.nextest_config_resolution_load.specs.declared.file_config.FileConfig.{FileConfig}
-use Rattle.nextest_config_resolution_settings.specs.Fallbacks as fallback
+use Rattle.nextest_config_resolution_keys.specs.Bench as bench_key
+use Rattle.nextest_config_resolution_keys.specs.Junit as junit_key
+use Rattle.nextest_config_resolution_keys.specs.Output as output_key
+use Rattle.nextest_config_resolution_keys.specs.Own as own_key
+use Rattle.nextest_config_resolution_keys.specs.Run as run_key
+use Rattle.nextest_config_resolution_keys.specs.Test as test_key
 use Rattle.nextest_config_resolution_keys.specs.declared.profile_config.ProfileConfig.{ProfileConfig}
 
 -- the profile `default` sets each setting that has a fallback, and to that: by list, and in the
 -- order of its keys
 abbrev pub default_profile : ProfileConfig
 default_profile = record {
-  own = (Some (codes "all()"), (None, (Some fallback.run_extra_args, tt)));
-  run = (Some fallback.fail_fast, (Some fallback.global_timeout, (Some fallback.test_threads, tt)));
-  test = (
-    Some fallback.fail_weight,
+  own = (
+    Some bench_key.bench_global_timeout_fallback,
     (
-      Some fallback.flaky_result,
+      Some run_key.fail_fast_fallback,
       (
-        Some fallback.leak_timeout,
+        Some output_key.final_status_level_fallback,
         (
-          Some fallback.retries,
+          Some run_key.global_timeout_fallback,
           (
-            Some (fallback.slow_timeout mode.Test),
-            (Some fallback.threads_required, tt),
+            None,
+            (None, (Some junit_key.junit_report_name_fallback, (Some output_key.status_level_fallback, (Some run_key.test_threads_fallback, tt)))),
           ),
         ),
       ),
     ),
   );
-  output = (Some fallback.failure_output, (Some fallback.final_status_level, (Some fallback.status_level, (Some fallback.success_output, tt))));
-  bench = (Some fallback.global_timeout, (Some (fallback.slow_timeout mode.Benchmark), tt));
-  junit = (
-    Some fallback.junit_flaky_fail_status,
+  command = (Some (codes "all()"), (Some own_key.run_extra_args_fallback, tt));
+  test = (
+    Some bench_key.bench_slow_timeout_fallback,
     (
-      None,
+      Some test_key.fail_weight_fallback,
       (
-        Some fallback.junit_report_name,
+        Some test_key.flaky_result_fallback,
         (
-          Some fallback.junit_report_skipped,
-          (Some fallback.junit_store_failure_output, (Some fallback.junit_store_success_output, tt)),
+          Some test_key.leak_timeout_fallback,
+          (Some test_key.retries_fallback, (Some test_key.slow_timeout_fallback, (Some test_key.threads_required_fallback, tt))),
+        ),
+      ),
+    ),
+  );
+  report = (
+    Some output_key.failure_output_fallback,
+    (
+      Some junit_key.junit_flaky_fail_status_fallback,
+      (
+        Some junit_key.junit_report_skipped_fallback,
+        (
+          Some junit_key.junit_store_failure_output_fallback,
+          (Some junit_key.junit_store_success_output_fallback, (Some output_key.success_output_fallback, tt)),
         ),
       ),
     ),
@@ -48,12 +62,10 @@ default_profile = record {
 -- the profile `default-miri` sets nothing
 abbrev pub miri_profile : ProfileConfig
 miri_profile = record {
-  own = (None, (None, (None, tt)));
-  run = (None, (None, (None, tt)));
-  test = (None, (None, (None, (None, (None, (None, tt))))));
-  output = (None, (None, (None, (None, tt))));
-  bench = (None, (None, tt));
-  junit = (None, (None, (None, (None, (None, (None, tt))))));
+  own = (None, (None, (None, (None, (None, (None, (None, (None, (None, tt)))))))));
+  command = (None, (None, tt));
+  test = (None, (None, (None, (None, (None, (None, (None, tt)))))));
+  report = (None, (None, (None, (None, (None, (None, tt))))));
 }
 
 -- both, and where files are stored

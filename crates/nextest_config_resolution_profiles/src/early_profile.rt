@@ -4,17 +4,17 @@ ghost use Rattle.std.specs.Bool.{OnFalse, OnTrue};
 ghost use Rattle.nextest_config_resolution_profiles.specs.Config.{SetsJunit};
 ghost use Rattle.nextest_config_resolution_profiles.specs.Evaluatable.{IsPutOn};
 ghost use Rattle.nextest_config_resolution_profiles.specs.Platforms.{built_for, built_on};
-ghost use Rattle.nextest_config_resolution_settings.specs.Keys as key;
+ghost use Rattle.nextest_config_resolution_keys.specs.Lists as key;
+ghost use Rattle.nextest_config_resolution_settings.specs.Layers.{in_own};
 ghost use Rattle.nextest_config_resolution_settings.specs.Nearest.{SetsNone};
 
 use crate::chain_rule::ChainRule;
 use crate::evaluatable_profile::EvaluatableProfile;
 use crate::platforms::{BuildPlatforms, chosen_default, put_all_on};
 use nextest_config_resolution_filters::{Filters, Specs};
-use nextest_config_resolution_keys::ProfileConfig;
+use nextest_config_resolution_keys::{JunitPathKey, ProfileConfig};
 use nextest_config_resolution_overrides::{NamedGroup, PlacedOverride};
 use nextest_config_resolution_scripts::{PlacedScriptRule, ScriptConfig};
-use nextest_config_resolution_settings::keys::JunitPathKey;
 use nextest_config_resolution_settings::{CompiledDefaultFilter, nearest};
 use nextest_filtering_filters::KnownGroups;
 use nextest_text::{Listing, Text};
@@ -123,7 +123,7 @@ impl<'c, F: Filters, S: Specs> EarlyProfile<'c, F, S> {
     /// `junit.path`.
     pub fn has_junit(&self) -> bool
         ensures yes { OnTrue result (SetsJunit self.now.chain) }
-        ensures no { OnFalse result (SetsNone key.junit_path self.now.chain) }
+        ensures no { OnFalse result (SetsNone (in_own key.junit_path_of) self.now.chain) }
     {
         match nearest::<JunitPathKey, ProfileConfig>(self.chain.as_slice()) {
             Some(_) => true,

@@ -4,8 +4,14 @@ ghost use Rattle.std.specs.Option.{option_copied};
 ghost use Rattle.nextest_config_resolution_profiles.specs.Evaluatable.{MayHaveJunit, inherits_of};
 ghost use Rattle.nextest_config_resolution_profiles.specs.Finding.{FindsHeld};
 ghost use Rattle.nextest_config_resolution_profiles.specs.Held.{AreSettingsFor, Holds, IsGroupFor, layers_of};
-ghost use Rattle.nextest_config_resolution_settings.specs.Fallbacks as fallback;
-ghost use Rattle.nextest_config_resolution_settings.specs.Keys as key;
+ghost use Rattle.nextest_config_resolution_keys.specs.Lists as key;
+ghost use Rattle.nextest_config_resolution_settings.specs.Layers.{in_command, in_own, in_report, in_test};
+ghost use Rattle.nextest_config_resolution_keys.specs.Modes.{global_timeout_by, slow_timeout_by, slow_timeout_or};
+ghost use Rattle.nextest_config_resolution_keys.specs.Junit as junit_key;
+ghost use Rattle.nextest_config_resolution_keys.specs.Output as output_key;
+ghost use Rattle.nextest_config_resolution_keys.specs.Own as own_key;
+ghost use Rattle.nextest_config_resolution_keys.specs.Run as run_key;
+ghost use Rattle.nextest_config_resolution_keys.specs.Test as test_key;
 ghost use Rattle.nextest_config_resolution_settings.specs.Nearest.{lent_layers};
 ghost use Rattle.nextest_config_resolution_settings.specs.Profile.{OfProfiles};
 ghost use Rattle.nextest_config_resolution_settings.specs.TestSettings.{AreSettings, group_of};
@@ -23,19 +29,12 @@ use nextest_config_elements_values::{
     SlowTimeout, TestThreads, ThreadsRequired,
 };
 use nextest_config_resolution_filters::{Filters, Specs};
-use nextest_config_resolution_keys::{InheritsKey, OwnKeys, ProfileConfig, get_value};
+use nextest_config_resolution_keys::{BenchGlobalTimeoutKey, BenchSlowTimeoutKey, FailFastKey, FailWeightKey, FailureOutputKey, FinalStatusLevelKey, FlakyResultKey, GlobalTimeoutKey, InheritsKey, JunitFlakyFailStatusKey, JunitPathKey, JunitReportNameKey, JunitReportSkippedKey, JunitStoreFailureOutputKey, JunitStoreSuccessOutputKey, LeakTimeoutKey, ProfileConfig, RetriesKey, RunExtraArgsKey, SlowTimeoutKey, StatusLevelKey, SuccessOutputKey, TestThreadsKey, ThreadsRequiredKey, get_value, junit_report_name_fallback};
 use nextest_config_resolution_overrides::{NamedGroup, PlacedOverride};
 use nextest_config_resolution_scripts::{PlacedScriptRule, ScriptConfig};
-use nextest_config_resolution_settings::keys::{
-    BenchGlobalTimeoutKey, BenchSlowTimeoutKey, FailFastKey, FailWeightKey, FailureOutputKey,
-    FinalStatusLevelKey, FlakyResultKey, GlobalTimeoutKey, JunitFlakyFailStatusKey, JunitPathKey,
-    JunitReportNameKey, JunitReportSkippedKey, JunitStoreFailureOutputKey,
-    JunitStoreSuccessOutputKey, LeakTimeoutKey, RetriesKey, RunExtraArgsKey, SlowTimeoutKey,
-    StatusLevelKey, SuccessOutputKey, TestThreadsKey, ThreadsRequiredKey,
-};
 use nextest_config_resolution_settings::{
     CompiledDefaultFilter, SettingSource, TestGroupRef, TestLayers, TestSettings, TrackSource,
-    fallbacks, of_profiles, set_by, settings_by, value_or,
+    of_profiles, set_by, settings_by, value_or_fallback,
 };
 use nextest_filtering_filters::TestQuery;
 use nextest_text::Text;
@@ -144,7 +143,7 @@ impl<'c, F: Filters, S: Specs> EvaluatableProfile<'c, F, S> {
     pub fn inherits(&self) -> Option<&'c str>
         ensures { option_copied result ≡ inherits_of self.now.chain }
     {
-        text_of(get_value::<InheritsKey, _, OwnKeys, _>(*self.chain().first()?))
+        text_of(get_value::<InheritsKey, _>(*self.chain().first()?))
     }
 
     /// The directory of its files.
@@ -156,107 +155,91 @@ impl<'c, F: Filters, S: Specs> EvaluatableProfile<'c, F, S> {
 
     /// `retries`: how a failing test is tried again.
     pub fn retries(&self) -> RetryPolicy
-        ensures { OfProfiles key.retries self.now.chain fallback.retries result }
+        ensures { OfProfiles (in_test key.retries_of) self.now.chain test_key.retries_fallback result }
     {
-        let otherwise = fallbacks::retries();
-        *value_or::<RetriesKey, ProfileConfig>(self.chain(), &otherwise)
+        value_or_fallback::<RetriesKey, ProfileConfig>(self.chain())
     }
 
     /// `flaky-result`: what becomes of a test that passes on a later attempt than its first.
     pub fn flaky_result(&self) -> FlakyResult
-        ensures { OfProfiles key.flaky_result self.now.chain fallback.flaky_result result }
+        ensures { OfProfiles (in_test key.flaky_result_of) self.now.chain test_key.flaky_result_fallback result }
     {
-        let otherwise = fallbacks::flaky_result();
-        *value_or::<FlakyResultKey, ProfileConfig>(self.chain(), &otherwise)
+        value_or_fallback::<FlakyResultKey, ProfileConfig>(self.chain())
     }
 
     /// `fail-weight`: how much a test weighs that fails.
     pub fn fail_weight(&self) -> FailWeight
-        ensures { OfProfiles key.fail_weight self.now.chain fallback.fail_weight result }
+        ensures { OfProfiles (in_test key.fail_weight_of) self.now.chain test_key.fail_weight_fallback result }
     {
-        let otherwise = fallbacks::fail_weight();
-        *value_or::<FailWeightKey, ProfileConfig>(self.chain(), &otherwise)
+        value_or_fallback::<FailWeightKey, ProfileConfig>(self.chain())
     }
 
     /// `test-threads`: how many tests run at a time.
     pub fn test_threads(&self) -> TestThreads
-        ensures { OfProfiles key.test_threads self.now.chain fallback.test_threads result }
+        ensures { OfProfiles (in_own key.test_threads_of) self.now.chain run_key.test_threads_fallback result }
     {
-        let otherwise = fallbacks::test_threads();
-        *value_or::<TestThreadsKey, ProfileConfig>(self.chain(), &otherwise)
+        value_or_fallback::<TestThreadsKey, ProfileConfig>(self.chain())
     }
 
     /// `threads-required`: how many threads a test takes.
     pub fn threads_required(&self) -> ThreadsRequired
-        ensures { OfProfiles key.threads_required self.now.chain fallback.threads_required result }
+        ensures { OfProfiles (in_test key.threads_required_of) self.now.chain test_key.threads_required_fallback result }
     {
-        let otherwise = fallbacks::threads_required();
-        *value_or::<ThreadsRequiredKey, ProfileConfig>(self.chain(), &otherwise)
+        value_or_fallback::<ThreadsRequiredKey, ProfileConfig>(self.chain())
     }
 
     /// `leak-timeout`: how long handles may stay open behind a test.
     pub fn leak_timeout(&self) -> LeakTimeout
-        ensures { OfProfiles key.leak_timeout self.now.chain fallback.leak_timeout result }
+        ensures { OfProfiles (in_test key.leak_timeout_of) self.now.chain test_key.leak_timeout_fallback result }
     {
-        let otherwise = fallbacks::leak_timeout();
-        *value_or::<LeakTimeoutKey, ProfileConfig>(self.chain(), &otherwise)
+        value_or_fallback::<LeakTimeoutKey, ProfileConfig>(self.chain())
     }
 
     /// `status-level`: which statuses are shown while tests run.
     pub fn status_level(&self) -> StatusLevel
-        ensures { OfProfiles key.status_level self.now.chain fallback.status_level result }
+        ensures { OfProfiles (in_own key.status_level_of) self.now.chain output_key.status_level_fallback result }
     {
-        let otherwise = fallbacks::status_level();
-        *value_or::<StatusLevelKey, ProfileConfig>(self.chain(), &otherwise)
+        value_or_fallback::<StatusLevelKey, ProfileConfig>(self.chain())
     }
 
     /// `final-status-level`: which statuses are shown at the end of a run.
     pub fn final_status_level(&self) -> FinalStatusLevel
-        ensures { OfProfiles key.final_status_level self.now.chain fallback.final_status_level
+        ensures { OfProfiles (in_own key.final_status_level_of) self.now.chain output_key.final_status_level_fallback
             result }
     {
-        let otherwise = fallbacks::final_status_level();
-        *value_or::<FinalStatusLevelKey, ProfileConfig>(self.chain(), &otherwise)
+        value_or_fallback::<FinalStatusLevelKey, ProfileConfig>(self.chain())
     }
 
     /// `failure-output`: when the output of a test is shown that fails.
     pub fn failure_output(&self) -> TestOutputDisplay
-        ensures { OfProfiles key.failure_output self.now.chain fallback.failure_output result }
+        ensures { OfProfiles (in_report key.failure_output_of) self.now.chain output_key.failure_output_fallback result }
     {
-        let otherwise = fallbacks::failure_output();
-        *value_or::<FailureOutputKey, ProfileConfig>(self.chain(), &otherwise)
+        value_or_fallback::<FailureOutputKey, ProfileConfig>(self.chain())
     }
 
     /// `success-output`: when the output of a test is shown that passes.
     pub fn success_output(&self) -> TestOutputDisplay
-        ensures { OfProfiles key.success_output self.now.chain fallback.success_output result }
+        ensures { OfProfiles (in_report key.success_output_of) self.now.chain output_key.success_output_fallback result }
     {
-        let otherwise = fallbacks::success_output();
-        *value_or::<SuccessOutputKey, ProfileConfig>(self.chain(), &otherwise)
+        value_or_fallback::<SuccessOutputKey, ProfileConfig>(self.chain())
     }
 
     /// `fail-fast`: when failing tests stop a run.
     pub fn max_fail(&self) -> MaxFail
-        ensures { OfProfiles key.fail_fast self.now.chain fallback.fail_fast result }
+        ensures { OfProfiles (in_own key.fail_fast_of) self.now.chain run_key.fail_fast_fallback result }
     {
-        let otherwise = fallbacks::fail_fast();
-        *value_or::<FailFastKey, ProfileConfig>(self.chain(), &otherwise)
+        value_or_fallback::<FailFastKey, ProfileConfig>(self.chain())
     }
 
     /// `slow-timeout`: when a test is slow, and when it is ended for that; of benchmarks
     /// `bench.slow-timeout`, and that alone.
     pub fn slow_timeout(&self, mode: NextestRunMode) -> SlowTimeout
-        ensures { OfProfiles (key.slow_timeout mode) self.now.chain
-            (fallback.slow_timeout mode) result }
+        ensures { OfProfiles (in_test (slow_timeout_by mode)) self.now.chain
+            (slow_timeout_or mode) result }
     {
-        let otherwise = fallbacks::slow_timeout(mode);
         match mode {
-            NextestRunMode::Test => {
-                *value_or::<SlowTimeoutKey, ProfileConfig>(self.chain(), &otherwise)
-            }
-            NextestRunMode::Benchmark => {
-                *value_or::<BenchSlowTimeoutKey, ProfileConfig>(self.chain(), &otherwise)
-            }
+            NextestRunMode::Test => value_or_fallback::<SlowTimeoutKey, ProfileConfig>(self.chain()),
+            NextestRunMode::Benchmark => value_or_fallback::<BenchSlowTimeoutKey, ProfileConfig>(self.chain()),
         }
     }
 
@@ -264,22 +247,17 @@ impl<'c, F: Filters, S: Specs> EvaluatableProfile<'c, F, S> {
     /// alone.
     pub fn global_timeout(&self, mode: NextestRunMode) -> GlobalTimeout
         ensures { OfProfiles
-            (key.global_timeout mode) self.now.chain fallback.global_timeout result }
+            (in_own (global_timeout_by mode)) self.now.chain run_key.global_timeout_fallback result }
     {
-        let otherwise = fallbacks::global_timeout();
         match mode {
-            NextestRunMode::Test => {
-                *value_or::<GlobalTimeoutKey, ProfileConfig>(self.chain(), &otherwise)
-            }
-            NextestRunMode::Benchmark => {
-                *value_or::<BenchGlobalTimeoutKey, ProfileConfig>(self.chain(), &otherwise)
-            }
+            NextestRunMode::Test => value_or_fallback::<GlobalTimeoutKey, ProfileConfig>(self.chain()),
+            NextestRunMode::Benchmark => value_or_fallback::<BenchGlobalTimeoutKey, ProfileConfig>(self.chain()),
         }
     }
 
     /// `run-extra-args`: the arguments that tests are run with besides.
     pub fn run_extra_args(&self) -> &'c [Text]
-        ensures { OfProfiles key.run_extra_args self.now.chain fallback.run_extra_args result.now }
+        ensures { OfProfiles (in_command key.run_extra_args_of) self.now.chain own_key.run_extra_args_fallback result.now }
     {
         match of_profiles::<RunExtraArgsKey, ProfileConfig>(self.chain()) {
             Some(arguments) => arguments.as_slice(),
@@ -457,49 +435,45 @@ impl<'c, F: Filters, S: Specs> EvaluatableProfile<'c, F, S> {
 
     // `junit.report-name`: the name that stands in the report.
     fn junit_report_name(&self) -> &'c str
-        ensures { OfProfiles key.junit_report_name self.now.chain fallback.junit_report_name
+        ensures { OfProfiles (in_own key.junit_report_name_of) self.now.chain junit_key.junit_report_name_fallback
             result.now }
     {
         match of_profiles::<JunitReportNameKey, ProfileConfig>(self.chain()) {
             Some(name) => name.as_str(),
-            None => fallbacks::junit_report_name(),
+            None => junit_report_name_fallback(),
         }
     }
 
     // `junit.store-success-output`: whether the report has the outputs of tests that pass.
     fn junit_store_success_output(&self) -> bool
-        ensures { OfProfiles key.junit_store_success_output self.now.chain
-            fallback.junit_store_success_output result }
+        ensures { OfProfiles (in_report key.junit_store_success_output_of) self.now.chain
+            junit_key.junit_store_success_output_fallback result }
     {
-        let otherwise = fallbacks::junit_store_success_output();
-        *value_or::<JunitStoreSuccessOutputKey, ProfileConfig>(self.chain(), &otherwise)
+        value_or_fallback::<JunitStoreSuccessOutputKey, ProfileConfig>(self.chain())
     }
 
     // `junit.store-failure-output`: whether it has the outputs of tests that fail.
     fn junit_store_failure_output(&self) -> bool
-        ensures { OfProfiles key.junit_store_failure_output self.now.chain
-            fallback.junit_store_failure_output result }
+        ensures { OfProfiles (in_report key.junit_store_failure_output_of) self.now.chain
+            junit_key.junit_store_failure_output_fallback result }
     {
-        let otherwise = fallbacks::junit_store_failure_output();
-        *value_or::<JunitStoreFailureOutputKey, ProfileConfig>(self.chain(), &otherwise)
+        value_or_fallback::<JunitStoreFailureOutputKey, ProfileConfig>(self.chain())
     }
 
     // `junit.report-skipped`: which skipped tests are reported.
     fn junit_report_skipped(&self) -> ReportSkipPolicy
-        ensures { OfProfiles key.junit_report_skipped self.now.chain fallback.junit_report_skipped
+        ensures { OfProfiles (in_report key.junit_report_skipped_of) self.now.chain junit_key.junit_report_skipped_fallback
             result }
     {
-        let otherwise = fallbacks::junit_report_skipped();
-        *value_or::<JunitReportSkippedKey, ProfileConfig>(self.chain(), &otherwise)
+        value_or_fallback::<JunitReportSkippedKey, ProfileConfig>(self.chain())
     }
 
     // `junit.flaky-fail-status`: how a test is reported that fails since it is flaky.
     fn junit_flaky_fail_status(&self) -> JunitFlakyFailStatus
-        ensures { OfProfiles key.junit_flaky_fail_status self.now.chain
-            fallback.junit_flaky_fail_status result }
+        ensures { OfProfiles (in_report key.junit_flaky_fail_status_of) self.now.chain
+            junit_key.junit_flaky_fail_status_fallback result }
     {
-        let otherwise = fallbacks::junit_flaky_fail_status();
-        *value_or::<JunitFlakyFailStatusKey, ProfileConfig>(self.chain(), &otherwise)
+        value_or_fallback::<JunitFlakyFailStatusKey, ProfileConfig>(self.chain())
     }
 }
 

@@ -12,7 +12,7 @@ ghost use Rattle.nextest_filtering_filters.specs.Query.{test_of};
 use crate::chain_rule::ChainRule;
 use nextest_config_resolution_filters::Filters;
 use nextest_config_resolution_keys::get_value;
-use nextest_config_resolution_overrides::{PlacedOverride, RuleKeys, TestGroupKey};
+use nextest_config_resolution_overrides::{PlacedOverride, TestGroupKey};
 use nextest_config_resolution_settings::TestGroupRef;
 use nextest_filtering_filters::TestQuery;
 use std::alloc::{AllocError, Global};
@@ -88,7 +88,7 @@ fn group_by<'c, F: Filters, S>(
     ensures { IfOk result
         (GivesGroup (Holds F.on_test default.now (test_of query.now)) (seen_rule rule.now)) }
 {
-    match get_value::<TestGroupKey, _, RuleKeys, _>(&rule.rule.placed.config) {
+    match get_value::<TestGroupKey, _>(&rule.rule.placed.config) {
         Some(group) => {
             if holds_on(alloc, rule, default, query)? {
                 return Ok(Some(TestGroupRef::new(group)));

@@ -7,7 +7,7 @@ use Rattle.nextest_config_elements_toml.specs.Reading.{Reading, ◌>>=◌}
 use Rattle.nextest_config_resolution_keys.specs.Items.{items_in}
 use Rattle.nextest_config_resolution_keys.specs.Keys.{Key, value_of}
 use Rattle.nextest_config_resolution_keys.specs.Rows.{Row, both, made_of, nothing, row_of}
-use Rattle.nextest_config_resolution_overrides.specs.ConditionKeys.{filter, platform}
+use Rattle.nextest_config_resolution_overrides.specs.Condition.{filter, platform}
 use Rattle.nextest_config_resolution_overrides.specs.declared.platforms.OverridePlatforms.{OverridePlatforms}
 use Rattle.nextest_config_resolution_scripts.specs.declared.script_rule.ScriptRuleConfig.{ScriptRuleConfig}
 

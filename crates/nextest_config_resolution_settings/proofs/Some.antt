@@ -19,13 +19,13 @@ use Rattle.nextest_config_resolution_keys.specs.Test as test_key
 use Rattle.nextest_config_resolution_overrides.specs.RuleKeys as rule
 use Rattle.nextest_config_resolution_overrides.specs.RuleKeys.{RuleValues}
 use Rattle.nextest_config_resolution_overrides.specs.Schedule as schedule_key
-use Rattle.nextest_config_resolution_settings.specs.Layers.{Layers}
+use Rattle.nextest_config_resolution_settings.specs.Layers.{Layers, in_command, in_report, in_rule, in_test}
 use Rattle.nextest_config_resolution_settings.specs.Laws.{SomeSettings}
 use Rattle.nextest_config_resolution_settings.specs.Nearest.{IsNearest, SetsNone, Source, a_profile, a_script_rule, an_override, no_layer, of_fallback, of_profile, of_profiles, of_rule}
 use Rattle.nextest_config_resolution_settings.specs.Profile.{OfProfiles}
 use Rattle.nextest_config_resolution_settings.specs.Rules.{id_of}
 use Rattle.nextest_config_resolution_settings.specs.TestSettings.{group_of}
-use Rattle.nextest_config_resolution_settings.specs.Tracked.{IsCommandSetting, IsReportSetting, IsRuleSetting, IsTestSetting, IsTracked, by_command, by_report, by_rule, by_test}
+use Rattle.nextest_config_resolution_settings.specs.Tracked.{IsCommandSetting, IsReportSetting, IsRuleSetting, IsTestSetting, IsTracked}
 use Rattle.nextest_config_resolution_settings.specs.Tracking.{KeepsSome}
 use Rattle.nextest_config_resolution_settings.specs.Wrappers.{IsTrackedWrapper, run_wrapper}
 use Rattle.nextest_config_resolution_settings.specs.declared.test_settings.TestGroupRef.{TestGroupRef}
@@ -117,22 +117,22 @@ some_wrapper Tells keeps wrappers named_by rules = by_found (found named_by rule
 -- by the list that a key is of
 some_of_rules : {S V : Type 0} (Tells : S → Source → Type 0) → KeepsSome Tells → (layers : Layers) (value_of : RuleValues → Option V) (fallback : V)
     → (it : V × S) × IsRuleSetting Tells layers value_of fallback it
-some_of_rules Tells keeps layers value_of fallback = some_tracked Tells keeps id_of (by_rule value_of) (by_rule value_of) layers.overrides [] fallback
+some_of_rules Tells keeps layers value_of fallback = some_tracked Tells keeps id_of (in_rule value_of) (in_rule value_of) layers.overrides [] fallback
 
 some_of_command : {S V : Type 0} (Tells : S → Source → Type 0) → KeepsSome Tells → (layers : Layers) (value_of : CommandValues → Option V) (fallback : V)
     → (it : V × S) × IsCommandSetting Tells layers value_of fallback it
 some_of_command Tells keeps layers value_of fallback =
-    some_tracked Tells keeps id_of (λ rule. value_of rule.config.command) (by_command value_of) layers.overrides layers.chain fallback
+    some_tracked Tells keeps id_of (λ rule. value_of rule.config.command) (in_command value_of) layers.overrides layers.chain fallback
 
 some_of_test : {S V : Type 0} (Tells : S → Source → Type 0) → KeepsSome Tells → (layers : Layers) (value_of : TestValues → Option V) (fallback : V)
     → (it : V × S) × IsTestSetting Tells layers value_of fallback it
 some_of_test Tells keeps layers value_of fallback =
-    some_tracked Tells keeps id_of (λ rule. value_of rule.config.test) (by_test value_of) layers.overrides layers.chain fallback
+    some_tracked Tells keeps id_of (λ rule. value_of rule.config.test) (in_test value_of) layers.overrides layers.chain fallback
 
 some_of_report : {S V : Type 0} (Tells : S → Source → Type 0) → KeepsSome Tells → (layers : Layers) (value_of : ReportValues → Option V) (fallback : V)
     → (it : V × S) × IsReportSetting Tells layers value_of fallback it
 some_of_report Tells keeps layers value_of fallback =
-    some_tracked Tells keeps id_of (λ rule. value_of rule.config.report) (by_report value_of) layers.overrides layers.chain fallback
+    some_tracked Tells keeps id_of (λ rule. value_of rule.config.report) (in_report value_of) layers.overrides layers.chain fallback
 
 pub some_settings : {S : Type 0} (Tells : S → Source → Type 0) → KeepsSome Tells → SomeSettings Tells
 some_settings Tells keeps mode layers =

@@ -18,9 +18,9 @@ pub fn of_profiles<'c, K: ConfigKey, P: Sets<K>>(profiles: &[&'c P]) -> Option<&
 
 /// The value that profiles have of a setting: that of the nearest that sets it, else the fallback of
 /// its key.
-pub fn value_or_fallback<K: HasFallback, P: Sets<K>>(profiles: &[&P]) -> K::Value
+pub fn value_or_fallback<'c, K: HasFallback, P: Sets<K>>(profiles: &[&'c P]) -> K::Value
 where
-    K::Value: Copy,
+    K::Value: Copy + 'c,
     ensures { OfProfiles P.value (lent_layers profiles.now) K.fallback result }
 {
     match of_profiles::<K, P>(profiles) {

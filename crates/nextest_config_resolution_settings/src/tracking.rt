@@ -54,7 +54,7 @@ pub fn settings_by<'l, 'c, T: TrackSource<'c>>(
     ensures { AreSettings T.tells mode (layers_in layers.entry) result }
 {
     TestSettings {
-        priority: over::<PriorityKey, PlacedOverride, T>(layers.overrides, &[]),
+        priority: found_or_fallback::<PriorityKey, PlacedOverride, T>(layers.overrides, &[]),
         threads_required: tracked::<ThreadsRequiredKey, T>(layers),
         run_wrapper: wrapper_by::<RunWrapperKey, T>(layers.scripts, layers.wrappers),
         run_extra_args: run_extra_args_by(layers),
@@ -89,7 +89,7 @@ fn found_by<'c, K: ConfigKey, R: Sets<K> + Rule, P: Sets<K>, T: TrackSource<'c>>
 
 // The value of a key over overrides, then other layers, or its fallback, and what is kept of where
 // it is taken from.
-fn over<'c, K: HasFallback, P: Sets<K>, T: TrackSource<'c>>(
+fn found_or_fallback<'c, K: HasFallback, P: Sets<K>, T: TrackSource<'c>>(
     overrides: &[&'c PlacedOverride],
     profiles: &[&'c P],
 ) -> (K::Value, T)
@@ -117,7 +117,7 @@ where
         (lent_layers layers.entry.overrides.now)
         (lent_layers layers.entry.chain.now) K.fallback result }
 {
-    over::<K, ProfileConfig, T>(layers.overrides, layers.chain)
+    found_or_fallback::<K, ProfileConfig, T>(layers.overrides, layers.chain)
 }
 
 // `slow-timeout`, and what is kept of where it is taken from; of benchmarks `bench.slow-timeout`,

@@ -17,12 +17,13 @@ use Rattle.nextest_config_elements_deserialize.specs.Words.{terminate_mode}
 use Rattle.nextest_config_resolution_load.specs.Checks.{MergedConfig, config_in, merged_in}
 use Rattle.nextest_config_resolution_overrides.specs.Groups.{groups_at}
 use Rattle.nextest_config_resolution_profiles.specs.Config.{values_of}
-use Rattle.nextest_config_resolution_settings.specs.Fallbacks as fallback
-use Rattle.nextest_config_resolution_settings.specs.Keys as key
+use Rattle.nextest_config_resolution_keys.specs.Lists as key
+use Rattle.nextest_config_resolution_settings.specs.Layers.{in_own}
+use Rattle.nextest_config_resolution_keys.specs.Run as run_key
 use Rattle.nextest_config_resolution_settings.specs.Nearest.{IsOfProfiles, Source, of_fallback, of_profile}
 use Rattle.nextest_config_resolution_scripts.specs.Scripts.{scripts_at}
 use Rattle.nextest_config_resolution_keys.specs.Keys.{value_in, value_of}
-use Rattle.nextest_config_resolution_keys.specs.RunKeys.{fail_fast}
+use Rattle.nextest_config_resolution_keys.specs.Run.{fail_fast}
 use Rattle.nextest_config_resolution_keys.specs.File.{Named, profiles_at, profiles_in, profiles_of, store_dir_at}
 use Rattle.nextest_config_resolution_keys.specs.Profile.{profile_in, profile_of}
 use Rattle.nextest_config_resolution_keys.specs.declared.profile_config.ProfileConfig.{ProfileConfig}
@@ -113,7 +114,7 @@ read_limit (array items) = switch_limit (array items)
 
 -- a limit that a profile sets is one at least
 abbrev HasLimit : ProfileConfig → Type 0
-HasLimit config = HoldsIfSome (key.fail_fast config) IsOneAtLeast
+HasLimit config = HoldsIfSome ((in_own key.fail_fast_of) config) IsOneAtLeast
 
 -- what stands at a key is read so
 value_holds : {A : Type 0} (reading : Data → Reading A) (found : Option Data) (P : A → Type 0) → ((given : Data) → Holds (reading given) P)
@@ -201,7 +202,7 @@ one_of : (front back : List ProfileConfig) (config : ProfileConfig) → AllByRec
 one_of [] back config have = have.0
 one_of (first ∷ front) back config have = one_of front back config have.1
 
-has_limit : (chain : List ProfileConfig) (limit : MaxFail) (from : Source) → AllByRecursion HasLimit chain → IsOfProfiles key.fail_fast chain fallback.fail_fast limit from → IsOneAtLeast limit
+has_limit : (chain : List ProfileConfig) (limit : MaxFail) (from : Source) → AllByRecursion HasLimit chain → IsOfProfiles (in_own key.fail_fast_of) chain run_key.fail_fast_fallback limit from → IsOneAtLeast limit
 has_limit chain _ _ have (of_profile place limit is) =
     subst (λ (found : Option MaxFail). HoldsIfSome found IsOneAtLeast) is.sets
     (one_of is.front is.back is.layer (subst (λ (all : List ProfileConfig). AllByRecursion HasLimit all) is.divided have))

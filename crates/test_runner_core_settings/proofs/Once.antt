@@ -26,9 +26,11 @@ use Rattle.nextest_config_resolution_profiles.specs.Whole.{Whole}
 use Rattle.nextest_config_resolution_profiles.specs.declared.profile_error.ProfileNotFound.{ProfileNotFound}
 use Rattle.nextest_config_resolution_profiles.proofs.OneProfile.{one_chain_of, one_order}
 use Rattle.nextest_config_resolution_profiles.proofs.Holding.{held_once, no_least}
-use Rattle.nextest_config_resolution_settings.specs.Fallbacks as fallback
 use Rattle.nextest_config_resolution_scripts.specs.declared.script_rule.PlacedScriptRule.{PlacedScriptRule}
-use Rattle.nextest_config_resolution_settings.specs.Keys as key
+use Rattle.nextest_config_resolution_keys.specs.Lists as key
+use Rattle.nextest_config_resolution_settings.specs.Layers.{in_own}
+use Rattle.nextest_config_resolution_keys.specs.Output as output_key
+use Rattle.nextest_config_resolution_keys.specs.Run as run_key
 use Rattle.nextest_config_resolution_settings.specs.Layers.{Layers}
 use Rattle.nextest_config_resolution_settings.specs.TestSettings.{AreSettings}
 use Rattle.nextest_config_resolution_settings.specs.Tracking.{TellsNothing}
@@ -113,9 +115,9 @@ pub one_run : (platforms : Platforms) (profile : Chosen) (one other : RunSetting
     → one.known_groups ≡ other.known_groups → one ≡ other
 one_run platforms profile one other a b groups =
     let chain = profile.chain in
-    let limit : one.max_fail ≡ other.max_fail = one_value key.fail_fast chain fallback.fail_fast _ _ a.limits.max_fail b.limits.max_fail in
-    let level : one.levels.status_level ≡ other.levels.status_level = one_value key.status_level chain fallback.status_level _ _ a.limits.status_level b.limits.status_level in
-    let final_level : one.levels.final_status_level ≡ other.levels.final_status_level = one_value key.final_status_level chain fallback.final_status_level _ _ a.limits.final_status_level b.limits.final_status_level in
+    let limit : one.max_fail ≡ other.max_fail = one_value (in_own key.fail_fast_of) chain run_key.fail_fast_fallback _ _ a.limits.max_fail b.limits.max_fail in
+    let level : one.levels.status_level ≡ other.levels.status_level = one_value (in_own key.status_level_of) chain output_key.status_level_fallback _ _ a.limits.status_level b.limits.status_level in
+    let final_level : one.levels.final_status_level ≡ other.levels.final_status_level = one_value (in_own key.final_status_level_of) chain output_key.final_status_level_fallback _ _ a.limits.final_status_level b.limits.final_status_level in
     let filter : one.default_filter ≡ other.default_filter = one_default platforms profile.rules chain one.default_filter other.default_filter a.default_filter b.default_filter in
     λ i. record {
       default_filter = filter i;

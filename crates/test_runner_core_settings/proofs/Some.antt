@@ -24,8 +24,10 @@ use Rattle.nextest_config_resolution_profiles.proofs.SetsAll.{never_falls_back}
 use Rattle.nextest_config_resolution_profiles.proofs.SomeConfig.{some_config}
 use Rattle.nextest_config_resolution_profiles.proofs.SomeSettings.{as_default, rules_decided, some_held}
 use Rattle.nextest_config_resolution_scripts.specs.declared.script_rule.PlacedScriptRule.{PlacedScriptRule}
-use Rattle.nextest_config_resolution_settings.specs.Fallbacks as fallback
-use Rattle.nextest_config_resolution_settings.specs.Keys as key
+use Rattle.nextest_config_resolution_keys.specs.Lists as key
+use Rattle.nextest_config_resolution_settings.specs.Layers.{in_command, in_own}
+use Rattle.nextest_config_resolution_keys.specs.Output as output_key
+use Rattle.nextest_config_resolution_keys.specs.Run as run_key
 use Rattle.nextest_config_resolution_settings.specs.Nearest.{SetsNone}
 use Rattle.nextest_config_resolution_settings.specs.Rules.{AreHeld, HoldsAndSets, IsLeast, NoneHoldsAndSets}
 use Rattle.nextest_config_resolution_settings.specs.Tracking.{TellsNothing, nothing_kept}
@@ -131,7 +133,7 @@ module _ (cx : Context) (inputs : Inputs) (config : Whole Filterset PlatformSpec
   some_default : InForce
   some_default = by_found (first_set (λ (it : OverrideOn Filterset PlatformSpec). it.for_target) on_platforms.default_set (put_own cx inputs config reads chained.names))
     where
-      unset : ¬ SetsNone key.default_filter chain
+      unset : ¬ SetsNone (in_command key.default_filter_of) chain
       unset = ((never_falls_back (IsFilter cx) IsPlatformSpec IsTooDeep (features_of inputs) inputs.root inputs.sources config reads).each inputs.profile chain chained).default_filter
 
       by_found : ((rule : OverrideOn Filterset PlatformSpec) × (filter : Filterset) × IsLeast ForTarget on_platforms.default_set (put_own cx inputs config reads chained.names) rule filter)
@@ -140,7 +142,7 @@ module _ (cx : Context) (inputs : Inputs) (config : Whole Filterset PlatformSpec
           let placed = least_placed cx inputs config reads chained.names rule filter least in
           record { text = filter.input; set = inl (placed_of rule, placed.0); filter = filter; read = placed.1 }
       by_found (inr none) =
-          let (text, (place, nearest)) = settings.some_nearest key.default_filter chain unset in
+          let (text, (place, nearest)) = settings.some_nearest (in_command key.default_filter_of) chain unset in
           let (name, there) = value_named cx (profiles_of config) chained.names nearest.front nearest.layer nearest.back (chained.valued ∙ ap (map Some) nearest.divided) in
           let filter = read_of cx (profiles_of config) config.loaded.default_filters reads.1.filters name nearest.layer text there nearest.sets in
           record { text = text; set = inr (none_placed cx inputs config reads chained.names none, (place, nearest)); filter = filter.0; read = filter.1 }
@@ -159,9 +161,9 @@ module _ (cx : Context) (inputs : Inputs) (config : Whole Filterset PlatformSpec
   -- what is set for a run
   pub some_run : has_repeated_fact inputs ≡ false → (it : RunSettings) × Sets cx inputs (Ok it)
   some_run known =
-      let limit = settings.some_value key.fail_fast chain fallback.fail_fast in
-      let level = settings.some_value key.status_level chain fallback.status_level in
-      let final_level = settings.some_value key.final_status_level chain fallback.final_status_level in (
+      let limit = settings.some_value (in_own key.fail_fast_of) chain run_key.fail_fast_fallback in
+      let level = settings.some_value (in_own key.status_level_of) chain output_key.status_level_fallback in
+      let final_level = settings.some_value (in_own key.final_status_level_of) chain output_key.final_status_level_fallback in (
         record {
           default_filter = some_default.text;
           known_groups = groups_in config;

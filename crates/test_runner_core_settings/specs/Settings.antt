@@ -4,8 +4,10 @@ use Rattle.std.specs.Option.{option_copied}
 use Rattle.nextest_config_elements_choices.specs.declared.run_mode.NextestRunMode.{NextestRunMode}
 use Rattle.nextest_config_resolution_overrides.specs.declared.placed_override.PlacedOverride.{PlacedOverride}
 use Rattle.nextest_config_resolution_scripts.specs.declared.script_rule.PlacedScriptRule.{PlacedScriptRule}
-use Rattle.nextest_config_resolution_settings.specs.Fallbacks as fallback
-use Rattle.nextest_config_resolution_settings.specs.Keys as key
+use Rattle.nextest_config_resolution_keys.specs.Lists as key
+use Rattle.nextest_config_resolution_settings.specs.Layers.{in_own}
+use Rattle.nextest_config_resolution_keys.specs.Output as output_key
+use Rattle.nextest_config_resolution_keys.specs.Run as run_key
 use Rattle.nextest_config_resolution_settings.specs.Layers.{Layers}
 use Rattle.nextest_config_resolution_settings.specs.Profile.{OfProfiles}
 use Rattle.nextest_config_resolution_settings.specs.Rules.{AreHeld}
@@ -60,9 +62,9 @@ pub record AreOfTest (cx : Context) (platforms : Platforms) (mode : NextestRunMo
 
 -- at which weight failing tests stop a run, and what is shown of it, is what the chain has
 pub record IsOfChain (chain : List ProfileConfig) (it : RunSettings) : Type 0 where
-  pub max_fail : OfProfiles key.fail_fast chain fallback.fail_fast it.max_fail
-  pub status_level : OfProfiles key.status_level chain fallback.status_level it.levels.status_level
-  pub final_status_level : OfProfiles key.final_status_level chain fallback.final_status_level it.levels.final_status_level
+  pub max_fail : OfProfiles (in_own key.fail_fast_of) chain run_key.fail_fast_fallback it.max_fail
+  pub status_level : OfProfiles (in_own key.status_level_of) chain output_key.status_level_fallback it.levels.status_level
+  pub final_status_level : OfProfiles (in_own key.final_status_level_of) chain output_key.final_status_level_fallback it.levels.final_status_level
 
 -- what a profile sets for a run
 pub record AreOfRun (platforms : Platforms) (profile : Chosen) (it : RunSettings) : Type 0 where

@@ -3,7 +3,8 @@ use Rattle.std.specs.List.{Contains}
 use Rattle.nextest_config_resolution_inheritance.specs.Inheritance.{IsAccepted, Rise, default, names, names_at}
 use Rattle.nextest_config_resolution_load.proofs.Configs.{same_parents}
 use Rattle.nextest_config_resolution_load.specs.Load.{named_of}
-use Rattle.nextest_config_resolution_settings.specs.Keys as key
+use Rattle.nextest_config_resolution_keys.specs.Lists as key
+use Rattle.nextest_config_resolution_settings.specs.Layers.{in_command}
 use Rattle.nextest_config_resolution_settings.specs.Nearest.{SetsNone, lent_layers}
 use Rattle.nextest_config_resolution_settings.specs.Rules.{profile_of, rules_of, script_profile_of}
 use Rattle.nextest_config_resolution_profiles.specs.ChainRules.{rules_in}
@@ -29,7 +30,7 @@ default_filter_of-default_filter-requires-clause-set g c =
     let at = c.in_ok-values.ensures in
     let chain = chained all c.args.place c.in_ok-found.found.items c.as_slice-places.result.now (lent_layers c.in_ok-values.values.items) c.requires.rise c.as_slice-places.ensures.value
     c.in_ok-found.ensures.chain at in
-    subst (λ vs. ¬ SetsNone key.default_filter (lent_layers vs)) (sym c.as_slice-layers.ensures.value)
+    subst (λ vs. ¬ SetsNone (in_command key.default_filter_of) (lent_layers vs)) (sym c.as_slice-layers.ensures.value)
     (chain_sets_filter (map named_of all) sets.values sets.text sets.there sets.sets _ (lent_layers c.in_ok-values.values.items) chain)
 
 pub returns : goal.returns
