@@ -1,12 +1,12 @@
 // A profile on platforms, and the values that it has.
-ghost use Rattle.std.specs.Prelude.{◌≡◌, IfOk};
+ghost use Rattle.std.specs.Prelude.{◌≡◌, IfOk, unwrap_or};
 ghost use Rattle.std.specs.Option.{option_copied};
 ghost use Rattle.nextest_config_resolution_profiles.specs.Evaluatable.{MayHaveJunit, inherits_of};
 ghost use Rattle.nextest_config_resolution_profiles.specs.Finding.{FindsHeld};
 ghost use Rattle.nextest_config_resolution_profiles.specs.Held.{AreSettingsFor, Holds, IsGroupFor, layers_of};
 ghost use Rattle.nextest_config_resolution_keys.specs.Lists as key;
 ghost use Rattle.nextest_config_resolution_settings.specs.Layers.{in_command, in_own, in_report, in_test};
-ghost use Rattle.nextest_config_resolution_keys.specs.Modes.{global_timeout_by, slow_timeout_by, slow_timeout_or};
+ghost use Rattle.nextest_config_resolution_keys.specs.Modes.{global_timeout_by, global_timeout_or, slow_timeout_by, slow_timeout_or};
 ghost use Rattle.nextest_config_resolution_keys.specs.Junit as junit_key;
 ghost use Rattle.nextest_config_resolution_keys.specs.Output as output_key;
 ghost use Rattle.nextest_config_resolution_keys.specs.Own as own_key;
@@ -29,12 +29,19 @@ use nextest_config_elements_values::{
     SlowTimeout, TestThreads, ThreadsRequired,
 };
 use nextest_config_resolution_filters::{Filters, Specs};
-use nextest_config_resolution_keys::{BenchGlobalTimeoutKey, BenchSlowTimeoutKey, FailFastKey, FailWeightKey, FailureOutputKey, FinalStatusLevelKey, FlakyResultKey, GlobalTimeoutKey, InheritsKey, JunitFlakyFailStatusKey, JunitPathKey, JunitReportNameKey, JunitReportSkippedKey, JunitStoreFailureOutputKey, JunitStoreSuccessOutputKey, LeakTimeoutKey, ProfileConfig, RetriesKey, RunExtraArgsKey, SlowTimeoutKey, StatusLevelKey, SuccessOutputKey, TestThreadsKey, ThreadsRequiredKey, get_value, junit_report_name_fallback};
+use nextest_config_resolution_keys::{
+    BenchGlobalTimeoutKey, BenchSlowTimeoutKey, ConfigKey, FailFastKey, FailWeightKey,
+    FailureOutputKey, FinalStatusLevelKey, FlakyResultKey, GlobalTimeoutKey, HasFallback,
+    InheritsKey, JunitFlakyFailStatusKey, JunitPathKey, JunitReportNameKey, JunitReportSkippedKey,
+    JunitStoreFailureOutputKey, JunitStoreSuccessOutputKey, LeakTimeoutKey, ProfileConfig,
+    RetriesKey, RunExtraArgsKey, SlowTimeoutKey, StatusLevelKey, SuccessOutputKey, TestThreadsKey,
+    ThreadsRequiredKey, get_value, junit_report_name_fallback,
+};
 use nextest_config_resolution_overrides::{NamedGroup, PlacedOverride};
 use nextest_config_resolution_scripts::{PlacedScriptRule, ScriptConfig};
 use nextest_config_resolution_settings::{
-    CompiledDefaultFilter, SettingSource, TestGroupRef, TestLayers, TestSettings, TrackSource,
-    of_profiles, set_by, settings_by, value_or_fallback,
+    CompiledDefaultFilter, Sets, SettingSource, TestGroupRef, TestLayers, TestSettings,
+    TrackSource, of_profiles, set_by, settings_by, value_or_fallback,
 };
 use nextest_filtering_filters::TestQuery;
 use nextest_text::Text;
@@ -157,49 +164,49 @@ impl<'c, F: Filters, S: Specs> EvaluatableProfile<'c, F, S> {
     pub fn retries(&self) -> RetryPolicy
         ensures { OfProfiles (in_test key.retries_of) self.now.chain test_key.retries_fallback result }
     {
-        value_or_fallback::<RetriesKey, ProfileConfig>(self.chain())
+        self.setting::<RetriesKey>()
     }
 
     /// `flaky-result`: what becomes of a test that passes on a later attempt than its first.
     pub fn flaky_result(&self) -> FlakyResult
         ensures { OfProfiles (in_test key.flaky_result_of) self.now.chain test_key.flaky_result_fallback result }
     {
-        value_or_fallback::<FlakyResultKey, ProfileConfig>(self.chain())
+        self.setting::<FlakyResultKey>()
     }
 
     /// `fail-weight`: how much a test weighs that fails.
     pub fn fail_weight(&self) -> FailWeight
         ensures { OfProfiles (in_test key.fail_weight_of) self.now.chain test_key.fail_weight_fallback result }
     {
-        value_or_fallback::<FailWeightKey, ProfileConfig>(self.chain())
+        self.setting::<FailWeightKey>()
     }
 
     /// `test-threads`: how many tests run at a time.
     pub fn test_threads(&self) -> TestThreads
         ensures { OfProfiles (in_own key.test_threads_of) self.now.chain run_key.test_threads_fallback result }
     {
-        value_or_fallback::<TestThreadsKey, ProfileConfig>(self.chain())
+        self.setting::<TestThreadsKey>()
     }
 
     /// `threads-required`: how many threads a test takes.
     pub fn threads_required(&self) -> ThreadsRequired
         ensures { OfProfiles (in_test key.threads_required_of) self.now.chain test_key.threads_required_fallback result }
     {
-        value_or_fallback::<ThreadsRequiredKey, ProfileConfig>(self.chain())
+        self.setting::<ThreadsRequiredKey>()
     }
 
     /// `leak-timeout`: how long handles may stay open behind a test.
     pub fn leak_timeout(&self) -> LeakTimeout
         ensures { OfProfiles (in_test key.leak_timeout_of) self.now.chain test_key.leak_timeout_fallback result }
     {
-        value_or_fallback::<LeakTimeoutKey, ProfileConfig>(self.chain())
+        self.setting::<LeakTimeoutKey>()
     }
 
     /// `status-level`: which statuses are shown while tests run.
     pub fn status_level(&self) -> StatusLevel
         ensures { OfProfiles (in_own key.status_level_of) self.now.chain output_key.status_level_fallback result }
     {
-        value_or_fallback::<StatusLevelKey, ProfileConfig>(self.chain())
+        self.setting::<StatusLevelKey>()
     }
 
     /// `final-status-level`: which statuses are shown at the end of a run.
@@ -207,28 +214,28 @@ impl<'c, F: Filters, S: Specs> EvaluatableProfile<'c, F, S> {
         ensures { OfProfiles (in_own key.final_status_level_of) self.now.chain output_key.final_status_level_fallback
             result }
     {
-        value_or_fallback::<FinalStatusLevelKey, ProfileConfig>(self.chain())
+        self.setting::<FinalStatusLevelKey>()
     }
 
     /// `failure-output`: when the output of a test is shown that fails.
     pub fn failure_output(&self) -> TestOutputDisplay
         ensures { OfProfiles (in_report key.failure_output_of) self.now.chain output_key.failure_output_fallback result }
     {
-        value_or_fallback::<FailureOutputKey, ProfileConfig>(self.chain())
+        self.setting::<FailureOutputKey>()
     }
 
     /// `success-output`: when the output of a test is shown that passes.
     pub fn success_output(&self) -> TestOutputDisplay
         ensures { OfProfiles (in_report key.success_output_of) self.now.chain output_key.success_output_fallback result }
     {
-        value_or_fallback::<SuccessOutputKey, ProfileConfig>(self.chain())
+        self.setting::<SuccessOutputKey>()
     }
 
     /// `fail-fast`: when failing tests stop a run.
     pub fn max_fail(&self) -> MaxFail
         ensures { OfProfiles (in_own key.fail_fast_of) self.now.chain run_key.fail_fast_fallback result }
     {
-        value_or_fallback::<FailFastKey, ProfileConfig>(self.chain())
+        self.setting::<FailFastKey>()
     }
 
     /// `slow-timeout`: when a test is slow, and when it is ended for that; of benchmarks
@@ -238,28 +245,29 @@ impl<'c, F: Filters, S: Specs> EvaluatableProfile<'c, F, S> {
             (slow_timeout_or mode) result }
     {
         match mode {
-            NextestRunMode::Test => value_or_fallback::<SlowTimeoutKey, ProfileConfig>(self.chain()),
-            NextestRunMode::Benchmark => value_or_fallback::<BenchSlowTimeoutKey, ProfileConfig>(self.chain()),
+            NextestRunMode::Test => self.setting::<SlowTimeoutKey>(),
+            NextestRunMode::Benchmark => self.setting::<BenchSlowTimeoutKey>(),
         }
     }
 
     /// `global-timeout`: how long a run may take; of benchmarks `bench.global-timeout`, and that
     /// alone.
     pub fn global_timeout(&self, mode: NextestRunMode) -> GlobalTimeout
-        ensures { OfProfiles
-            (in_own (global_timeout_by mode)) self.now.chain run_key.global_timeout_fallback result }
+        ensures { OfProfiles (in_own (global_timeout_by mode)) self.now.chain
+            (global_timeout_or mode) result }
     {
         match mode {
-            NextestRunMode::Test => value_or_fallback::<GlobalTimeoutKey, ProfileConfig>(self.chain()),
-            NextestRunMode::Benchmark => value_or_fallback::<BenchGlobalTimeoutKey, ProfileConfig>(self.chain()),
+            NextestRunMode::Test => self.setting::<GlobalTimeoutKey>(),
+            NextestRunMode::Benchmark => self.setting::<BenchGlobalTimeoutKey>(),
         }
     }
 
     /// `run-extra-args`: the arguments that tests are run with besides.
     pub fn run_extra_args(&self) -> &'c [Text]
-        ensures { OfProfiles (in_command key.run_extra_args_of) self.now.chain own_key.run_extra_args_fallback result.now }
+        ensures { OfProfiles (in_command key.run_extra_args_of) self.now.chain
+            own_key.run_extra_args_fallback result.now }
     {
-        match of_profiles::<RunExtraArgsKey, ProfileConfig>(self.chain()) {
+        match self.value_of::<RunExtraArgsKey>() {
             Some(arguments) => arguments.as_slice(),
             None => &[],
         }
@@ -433,12 +441,34 @@ impl<'c, F: Filters, S: Specs> EvaluatableProfile<'c, F, S> {
         )
     }
 
+    // The value that the nearest profile of the chain sets for a key, lent. `None` where none of
+    // them sets it, and then whatever the fallback is holds.
+    fn value_of<K: ConfigKey>(&self) -> Option<&'c K::Value>
+    where
+        ProfileConfig: Sets<K>,
+        ensures { (fallback : K.Value) → OfProfiles ⟦<ProfileConfig as Sets<K>>⟧.value
+            self.now.chain fallback (unwrap_or (option_copied result) fallback) }
+    {
+        of_profiles::<K, ProfileConfig>(self.chain())
+    }
+
+    // The value of a setting: that one, else the fallback of its key.
+    fn setting<K: HasFallback>(&self) -> K::Value
+    where
+        ProfileConfig: Sets<K>,
+        K::Value: Copy + 'c,
+        ensures { OfProfiles ⟦<ProfileConfig as Sets<K>>⟧.value
+            self.now.chain K.fallback result }
+    {
+        value_or_fallback::<K, ProfileConfig>(self.chain())
+    }
+
     // `junit.report-name`: the name that stands in the report.
     fn junit_report_name(&self) -> &'c str
-        ensures { OfProfiles (in_own key.junit_report_name_of) self.now.chain junit_key.junit_report_name_fallback
-            result.now }
+        ensures { OfProfiles (in_own key.junit_report_name_of) self.now.chain
+            junit_key.junit_report_name_fallback result.now }
     {
-        match of_profiles::<JunitReportNameKey, ProfileConfig>(self.chain()) {
+        match self.value_of::<JunitReportNameKey>() {
             Some(name) => name.as_str(),
             None => junit_report_name_fallback(),
         }
@@ -449,7 +479,7 @@ impl<'c, F: Filters, S: Specs> EvaluatableProfile<'c, F, S> {
         ensures { OfProfiles (in_report key.junit_store_success_output_of) self.now.chain
             junit_key.junit_store_success_output_fallback result }
     {
-        value_or_fallback::<JunitStoreSuccessOutputKey, ProfileConfig>(self.chain())
+        self.setting::<JunitStoreSuccessOutputKey>()
     }
 
     // `junit.store-failure-output`: whether it has the outputs of tests that fail.
@@ -457,7 +487,7 @@ impl<'c, F: Filters, S: Specs> EvaluatableProfile<'c, F, S> {
         ensures { OfProfiles (in_report key.junit_store_failure_output_of) self.now.chain
             junit_key.junit_store_failure_output_fallback result }
     {
-        value_or_fallback::<JunitStoreFailureOutputKey, ProfileConfig>(self.chain())
+        self.setting::<JunitStoreFailureOutputKey>()
     }
 
     // `junit.report-skipped`: which skipped tests are reported.
@@ -465,7 +495,7 @@ impl<'c, F: Filters, S: Specs> EvaluatableProfile<'c, F, S> {
         ensures { OfProfiles (in_report key.junit_report_skipped_of) self.now.chain junit_key.junit_report_skipped_fallback
             result }
     {
-        value_or_fallback::<JunitReportSkippedKey, ProfileConfig>(self.chain())
+        self.setting::<JunitReportSkippedKey>()
     }
 
     // `junit.flaky-fail-status`: how a test is reported that fails since it is flaky.
@@ -473,7 +503,7 @@ impl<'c, F: Filters, S: Specs> EvaluatableProfile<'c, F, S> {
         ensures { OfProfiles (in_report key.junit_flaky_fail_status_of) self.now.chain
             junit_key.junit_flaky_fail_status_fallback result }
     {
-        value_or_fallback::<JunitFlakyFailStatusKey, ProfileConfig>(self.chain())
+        self.setting::<JunitFlakyFailStatusKey>()
     }
 }
 
