@@ -47,7 +47,8 @@ pub use Rattle.nextest_config_resolution_keys.specs.Test as KeysOfTests
 pub use Rattle.nextest_config_resolution_keys.specs.Output as KeysOfOutput
 pub use Rattle.nextest_config_resolution_keys.specs.Bench as KeysOfBenchmarks
 pub use Rattle.nextest_config_resolution_keys.specs.Junit as KeysOfReports
-pub use Rattle.nextest_config_resolution_keys.specs.Lists as KeyLists
+pub use Rattle.nextest_config_resolution_keys.specs.Command as KeysOfCommands
+pub use Rattle.nextest_config_resolution_keys.specs.Report as KeysOfShowing
 pub use Rattle.nextest_config_resolution_keys.specs.Modes as KeysByMode
 pub use Rattle.nextest_config_resolution_keys.specs.Items
 pub use Rattle.nextest_config_resolution_keys.specs.Profile
@@ -150,6 +151,7 @@ pub use Rattle.nextest_config_resolution_overrides.specs.declared.override_confi
 pub use Rattle.nextest_config_resolution_overrides.specs.declared.override_id.OverrideId
 pub use Rattle.nextest_config_resolution_overrides.specs.declared.platforms.OverridePlatforms
 pub use Rattle.nextest_config_resolution_overrides.specs.declared.placed_override.PlacedOverride
+pub use Rattle.nextest_config_resolution_overrides.specs.declared.rule.RuleValues
 pub use Rattle.nextest_config_resolution_profiles.specs.declared.platforms.BuildPlatforms
 pub use Rattle.nextest_config_resolution_profiles.specs.declared.enabled.EnabledScript
 pub use Rattle.nextest_config_resolution_profiles.specs.declared.memberships.PrecomputedGroupMembership
@@ -178,7 +180,11 @@ pub use Rattle.nextest_config_resolution_settings.specs.declared.test_settings.T
 pub use Rattle.nextest_config_resolution_sources.specs.declared.paths.ConfigPaths
 pub use Rattle.nextest_config_resolution_sources.specs.declared.source.ConfigSource
 pub use Rattle.nextest_config_resolution_sources.specs.declared.source.ConfigSourceOutcome
+pub use Rattle.nextest_config_resolution_keys.specs.declared.command.CommandValues
+pub use Rattle.nextest_config_resolution_keys.specs.declared.own.OwnValues
 pub use Rattle.nextest_config_resolution_keys.specs.declared.profile_config.ProfileConfig
+pub use Rattle.nextest_config_resolution_keys.specs.declared.report.ReportValues
+pub use Rattle.nextest_config_resolution_keys.specs.declared.test.TestValues
 pub use Rattle.nextest_config_resolution_warnings.specs.declared.config_warning.ConfigWarning
 pub use Rattle.nextest_config_resolution_warnings.specs.declared.place.Place
 pub use Rattle.nextest_config_resolution_warnings.specs.declared.shown.Shown

@@ -13,10 +13,10 @@ pub use nextest_config_resolution_load::laws::{
 pub use nextest_config_resolution_overrides::laws::{accepted_override, refused_override};
 pub use nextest_config_resolution_profiles::laws::{
     accepted as built_in_is_accepted, default_is_read, early_default, group_of_settings,
-    kept_profile, more_enable_no_fewer, never_falls_back, no_fallback, no_rules,
-    nothing_is_undefined, numbered_rows, one_held, one_profile, profile_isolation,
-    read_as as built_in_is_read_as, rules_are_read, same_chain, some_profile, some_settings,
-    written_as as built_in_is_written_as,
+    has_all_but as built_in_has_all_but, kept_profile, more_enable_no_fewer, never_falls_back,
+    no_fallback, no_rules, nothing_is_undefined, numbered_rows, one_held, one_profile,
+    profile_isolation, read_as as built_in_is_read_as, rules_are_read, same_chain, sets_store_dir,
+    some_profile, some_settings, written_as as built_in_is_written_as,
 };
 pub use nextest_config_resolution_scripts::laws::{
     accepted_names, accepted_script_rule, accepted_setup_script, accepted_wrapper_script,

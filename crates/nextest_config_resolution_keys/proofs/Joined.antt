@@ -1,13 +1,11 @@
 -- What two readings of one table give together.
 use Rattle.std.proofs.Common.{◌≡◌, [], Ok, Err, ap, sym}
 use Rattle.nextest_config_elements_toml.specs.Paths.{GivesAt}
-use Rattle.nextest_config_elements_toml.specs.Reading.{Path, Reading}
+use Rattle.nextest_config_elements_toml.specs.Reading.{Reading}
 use Rattle.nextest_config_elements_toml.specs.declared.value_error.ValueError.{ValueError}
 use Rattle.nextest_config_elements_toml.specs.declared.value_error.ValueError.TheVariants as error
+use Rattle.nextest_config_resolution_keys.proofs.Made.{err_inj}
 use Rattle.nextest_config_resolution_keys.specs.Rows.{IsLeast, joined}
-
-err_inj : {A : Type 0} (path way : Path) → ◌≡◌ {A = Reading A} (Err path) (Err way) → path ≡ way
-err_inj path way e = cc
 
 -- two refusals come to the one that stands first
 pub refuse_both : {A B : Type 0} (x : Reading A) (y : Reading B) (one other told : ValueError)

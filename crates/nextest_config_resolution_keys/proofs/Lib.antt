@@ -1,4 +1,4 @@
+pub mod Accepting
 mod Joined
 pub mod Made
 pub mod OneByOne
-pub mod Read

@@ -8,7 +8,7 @@ use Rattle.nextest_config_elements_toml.specs.declared.value_error.ValueError.{V
 use Rattle.nextest_config_elements_toml.specs.declared.value_error.ValueError.TheVariants as error
 use Rattle.nextest_config_resolution_keys.specs.Rows.{made_of, refusal_of}
 
-err_inj : {A : Type 0} (path way : Path) → ◌≡◌ {A = Reading A} (Err path) (Err way) → path ≡ way
+pub err_inj : {A : Type 0} (path way : Path) → ◌≡◌ {A = Reading A} (Err path) (Err way) → path ≡ way
 err_inj path way e = cc
 
 -- what is refused, told below a path
@@ -26,16 +26,3 @@ gives_within make path error.OutOfMemory error.OutOfMemory x gives below = tt
 pub refused_made : {A B : Type 0} (make : A → B) (x : Reading A) → refusal_of (made_of make x) ≡ refusal_of x
 refused_made make (Ok values) = refl
 refused_made make (Err path) = refl
-
--- it was read, of something
-pub record IsMadeOf {A B : Type 0} (make : A → B) (x : Reading A) (it : B) : Type 0 where
-  pub values : A
-  pub reads : x ≡ Ok values
-  pub is : make values ≡ it
-
-ok_inj : {A : Type 0} (x y : A) → ◌≡◌ {A = Reading A} (Ok x) (Ok y) → x ≡ y
-ok_inj x y e = cc
-
-pub read_of : {A B : Type 0} (make : A → B) (x : Reading A) (it : B) → made_of make x ≡ Ok it → IsMadeOf make x it
-read_of make (Ok values) it e = record { values = values; reads = refl; is = ok_inj (make values) it e }
-read_of make (Err path) it e = absurd (let g = e in cc)

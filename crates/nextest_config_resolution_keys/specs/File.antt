@@ -3,16 +3,15 @@ use Rattle.std.specs.Prelude.{ℕ, List, [], ◌∷◌, codes, Option, None, Som
 use Rattle.toml.specs.Data.{Data, Members, no_members, member, as_str, get_member}
 use Rattle.nextest_config_elements_toml.specs.Reading.{Reading, ◌>>=◌, optional, under}
 use Rattle.nextest_config_elements_deserialize.specs.Keys.{table_by}
-use Rattle.nextest_config_resolution_keys.specs.Lists.{default_filter_of, inherits_of}
 use Rattle.nextest_config_resolution_keys.specs.Profile.{profile_of}
 use Rattle.nextest_config_resolution_keys.specs.declared.profile_config.ProfileConfig.{ProfileConfig}
 
 -- the parent and the default filter that a profile sets
 abbrev pub inherits_in : ProfileConfig → Option (List ℕ)
-inherits_in profile = inherits_of profile.own
+inherits_in profile = profile.own.inherits
 
 abbrev pub default_filter_in : ProfileConfig → Option (List ℕ)
-default_filter_in profile = default_filter_of profile.command
+default_filter_in profile = profile.command.default_filter
 
 -- a profile by its name
 abbrev pub Named : Type 0

@@ -7,7 +7,7 @@ use Rattle.std.specs.Ordering.{is_gt, match_ordering, ordering_reverse}
 use Rattle.toml.specs.Data.{Members}
 use Rattle.nextest_config_elements_toml.specs.Reading.{Path, Reading}
 use Rattle.nextest_config_resolution_keys.specs.Keys.{Key, value_of}
-use Rattle.nextest_config_resolution_keys.specs.Rows.{Row, both, joined, least, least_of, refusal, refusal_of, row_of}
+use Rattle.nextest_config_resolution_keys.specs.Rows.{Row, both, joined, least, least_of, made_of, refusal, refusal_of, row_of}
 
 -- two readings refuse what the one or the other does
 pub joined_refuses : {A B : Type 0} (one : Reading A) (other : Reading B) → refusal_of (joined one other) ≡ least_of (refusal_of one) (refusal_of other)
@@ -119,3 +119,15 @@ pub refuses_lists : {A B : Type 0} (one : Members → Reading A) (other : Member
 refuses_lists one other rows more first second given =
     joined_refuses (one given) (other given) ∙ ap (λ it. least_of it (refusal_of (other given))) (first given)
     ∙ ap (least_of (refusal rows given)) (second given) ∙ sym (refusal_append rows more given)
+
+-- ---- what is made of what a reading gives
+
+-- it was read, of something
+pub record IsMadeOf {A B : Type 0} (make : A → B) (x : Reading A) (it : B) : Type 0 where
+  pub values : A
+  pub reads : x ≡ Ok values
+  pub is : make values ≡ it
+
+pub read_of : {A B : Type 0} (make : A → B) (x : Reading A) (it : B) → made_of make x ≡ Ok it → IsMadeOf make x it
+read_of make (Ok values) it e = record { values = values; reads = refl; is = ok_inj (make values) it e }
+read_of make (Err path) it e = absurd (let g = e in cc)

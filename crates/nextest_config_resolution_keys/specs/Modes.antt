@@ -6,9 +6,11 @@ use Rattle.nextest_config_elements_choices.specs.declared.run_mode.NextestRunMod
 use Rattle.nextest_config_elements_values.specs.declared.timeouts.GlobalTimeout.{GlobalTimeout}
 use Rattle.nextest_config_elements_values.specs.declared.timeouts.SlowTimeout.{SlowTimeout}
 use Rattle.nextest_config_resolution_keys.specs.Bench.{bench_global_timeout_fallback, bench_slow_timeout_fallback}
-use Rattle.nextest_config_resolution_keys.specs.Lists.{OwnValues, TestValues, bench_global_timeout_of, bench_slow_timeout_of, global_timeout_of, slow_timeout_of}
+use Rattle.nextest_config_resolution_keys.specs.Own.{bench_global_timeout_of, global_timeout_of}
 use Rattle.nextest_config_resolution_keys.specs.Run.{global_timeout_fallback}
-use Rattle.nextest_config_resolution_keys.specs.Test.{slow_timeout_fallback}
+use Rattle.nextest_config_resolution_keys.specs.Test.{bench_slow_timeout_of, slow_timeout_fallback, slow_timeout_of}
+use Rattle.nextest_config_resolution_keys.specs.declared.own.OwnValues.{OwnValues}
+use Rattle.nextest_config_resolution_keys.specs.declared.test.TestValues.{TestValues}
 
 abbrev pub slow_timeout_by : NextestRunMode → TestValues → Option SlowTimeout
 slow_timeout_by mode.Test = slow_timeout_of

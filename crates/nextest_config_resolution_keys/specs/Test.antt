@@ -1,5 +1,7 @@
 -- The keys that tell how a test is run.
-use Rattle.std.specs.Prelude.{ℕ, [], ◌∷◌, codes}
+use Rattle.std.specs.Prelude.{◌≡◌, ℕ, List, [], ◌∷◌, codes, Option, None, Some, Ok}
+use Rattle.toml.specs.Data.{Members}
+use Rattle.nextest_config_elements_toml.specs.Reading.{Reading}
 use Rattle.nextest_config_elements_deserialize.specs.FailWeights.{fail_weight_in}
 use Rattle.nextest_config_elements_deserialize.specs.Levels.{flaky_result_in}
 use Rattle.nextest_config_elements_deserialize.specs.Retries.{retry_policy_in}
@@ -10,7 +12,10 @@ use Rattle.nextest_config_elements_values.specs.declared.retries.RetryPolicy.{Re
 use Rattle.nextest_config_elements_values.specs.declared.threads.ThreadsRequired.{ThreadsRequired}
 use Rattle.nextest_config_elements_values.specs.declared.timeouts.LeakTimeout.{LeakTimeout}
 use Rattle.nextest_config_elements_values.specs.declared.timeouts.SlowTimeout.{SlowTimeout}
-use Rattle.nextest_config_resolution_keys.specs.Keys.{Key}
+use Rattle.nextest_config_resolution_keys.specs.Bench.{bench_slow_timeout, bench_slow_timeout_fallback}
+use Rattle.nextest_config_resolution_keys.specs.Keys.{Key, value_of}
+use Rattle.nextest_config_resolution_keys.specs.Rows.{Row, both, made_of, nothing, row_of}
+use Rattle.nextest_config_resolution_keys.specs.declared.test.TestValues.{TestValues}
 use Rattle.nextest_config_elements_choices.specs.declared.timeouts.FlakyResult.TheVariants as flaky
 use Rattle.nextest_config_elements_choices.specs.declared.timeouts.LeakTimeoutResult.TheVariants as leak
 use Rattle.nextest_config_elements_values.specs.declared.threads.ThreadsRequired.TheVariants as taken
@@ -64,3 +69,78 @@ threads_required = record { path = codes "threads-required" ∷ []; reading = th
 -- where nothing sets it: one
 abbrev pub threads_required_fallback : ThreadsRequired
 threads_required_fallback = taken.Count 1
+
+-- ---- how a test is run
+
+abbrev pub test_rows : List Row
+test_rows = row_of bench_slow_timeout ∷ row_of fail_weight ∷ row_of flaky_result ∷ row_of leak_timeout ∷ row_of retries ∷ row_of slow_timeout ∷ row_of threads_required ∷ []
+
+-- their values as a tuple, and by their names
+abbrev pub TestTuple : Type 0
+TestTuple = Option SlowTimeout × (Option ℕ × (Option FlakyResult × (Option LeakTimeout × (Option RetryPolicy × (Option SlowTimeout × (Option ThreadsRequired × Unit {0}))))))
+
+abbrev pub test_values : TestTuple → TestValues
+test_values it = record {
+  bench_slow_timeout = it.0;
+  fail_weight = it.1.0;
+  flaky_result = it.1.1.0;
+  leak_timeout = it.1.1.1.0;
+  retries = it.1.1.1.1.0;
+  slow_timeout = it.1.1.1.1.1.0;
+  threads_required = it.1.1.1.1.1.1.0;
+}
+
+-- what a table says of them: refused for the first place, by the bytes of the keys, at which one of
+-- the keys refuses it
+abbrev pub test_tuple_in : Members → Reading TestTuple
+test_tuple_in = both (value_of bench_slow_timeout) (both (value_of fail_weight) (both (value_of flaky_result) (both (value_of leak_timeout) (both (value_of retries) (both (value_of slow_timeout) (both (value_of threads_required) nothing))))))
+
+abbrev pub test_in : Members → Reading TestValues
+test_in given = made_of test_values (test_tuple_in given)
+
+-- each key reads a table as its value
+pub record IsTest (given : Members) (it : TestValues) : Type 0 where
+  pub bench_slow_timeout : value_of bench_slow_timeout given ≡ Ok it.bench_slow_timeout
+  pub fail_weight : value_of fail_weight given ≡ Ok it.fail_weight
+  pub flaky_result : value_of flaky_result given ≡ Ok it.flaky_result
+  pub leak_timeout : value_of leak_timeout given ≡ Ok it.leak_timeout
+  pub retries : value_of retries given ≡ Ok it.retries
+  pub slow_timeout : value_of slow_timeout given ≡ Ok it.slow_timeout
+  pub threads_required : value_of threads_required given ≡ Ok it.threads_required
+
+-- what they have where nothing sets them
+abbrev pub test_fallbacks : TestValues
+test_fallbacks = record {
+  bench_slow_timeout = Some bench_slow_timeout_fallback;
+  fail_weight = Some fail_weight_fallback;
+  flaky_result = Some flaky_result_fallback;
+  leak_timeout = Some leak_timeout_fallback;
+  retries = Some retries_fallback;
+  slow_timeout = Some slow_timeout_fallback;
+  threads_required = Some threads_required_fallback;
+}
+
+-- where nothing is set
+abbrev pub test_unset : TestValues
+test_unset = test_values (None, (None, (None, (None, (None, (None, (None, tt)))))))
+
+abbrev pub bench_slow_timeout_of : TestValues → Option SlowTimeout
+bench_slow_timeout_of it = it.bench_slow_timeout
+
+abbrev pub fail_weight_of : TestValues → Option ℕ
+fail_weight_of it = it.fail_weight
+
+abbrev pub flaky_result_of : TestValues → Option FlakyResult
+flaky_result_of it = it.flaky_result
+
+abbrev pub leak_timeout_of : TestValues → Option LeakTimeout
+leak_timeout_of it = it.leak_timeout
+
+abbrev pub retries_of : TestValues → Option RetryPolicy
+retries_of it = it.retries
+
+abbrev pub slow_timeout_of : TestValues → Option SlowTimeout
+slow_timeout_of it = it.slow_timeout
+
+abbrev pub threads_required_of : TestValues → Option ThreadsRequired
+threads_required_of it = it.threads_required

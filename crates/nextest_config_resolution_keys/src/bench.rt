@@ -3,6 +3,9 @@ ghost use Rattle.std.specs.Prelude.{◌≡◌};
 ghost use Rattle.nextest_config_resolution_keys.specs.Bench as keys;
 
 use crate::config_key::{ConfigKey, HasFallback};
+use crate::has_key::{HasKey, ListedKey};
+use crate::own::OwnValues;
+use crate::test::TestValues;
 use nextest_config_elements_deserialize::{deserialize_global_timeout, deserialize_slow_timeout};
 use nextest_config_elements_toml::ValueError;
 use nextest_config_elements_values::{ConfigDuration, GlobalTimeout, SlowTimeout};
@@ -37,6 +40,22 @@ impl HasFallback for BenchGlobalTimeoutKey {
     }
 }
 
+impl HasKey<BenchGlobalTimeoutKey> for OwnValues {
+    ghost use Rattle.nextest_config_resolution_keys.specs.KeyByKey.{own_read};
+
+    ghost value = { λ it. it.bench_global_timeout };
+
+    ghost reads = { λ given it is. (own_read given it is).bench_global_timeout };
+
+    fn value(&self) -> Option<&GlobalTimeout> {
+        self.bench_global_timeout.as_ref()
+    }
+}
+
+impl ListedKey for BenchGlobalTimeoutKey {
+    type Values = OwnValues;
+}
+
 /// `bench.slow-timeout`: when a benchmark is slow, and when it is ended for that. Where nothing
 /// sets it: after thirty years, and nothing is ended for that.
 pub struct BenchSlowTimeoutKey;
@@ -61,6 +80,22 @@ impl HasFallback for BenchSlowTimeoutKey {
     fn fallback() -> SlowTimeout {
         SlowTimeout::after(thirty_years())
     }
+}
+
+impl HasKey<BenchSlowTimeoutKey> for TestValues {
+    ghost use Rattle.nextest_config_resolution_keys.specs.KeyByKey.{test_read};
+
+    ghost value = { λ it. it.bench_slow_timeout };
+
+    ghost reads = { λ given it is. (test_read given it is).bench_slow_timeout };
+
+    fn value(&self) -> Option<&SlowTimeout> {
+        self.bench_slow_timeout.as_ref()
+    }
+}
+
+impl ListedKey for BenchSlowTimeoutKey {
+    type Values = TestValues;
 }
 
 // Thirty years, of 365.25 days each.

@@ -32,7 +32,7 @@ pub trait ConfigKey {
         ensures { GivesAt [] result (key.reading (view value.now)) };
 }
 
-/// A key that has a value where no table sets one: that of the built-in configuration.
+/// A key that has a value where nothing sets one.
 pub trait HasFallback: ConfigKey {
     ghost use Rattle.std.specs.Prelude.{◌≡◌};
 

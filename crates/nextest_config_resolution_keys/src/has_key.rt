@@ -1,63 +1,64 @@
-// Which keys a list has.
+// Which values are read together.
+ghost use Rattle.std.specs.Prelude.{◌≡◌};
+ghost use Rattle.std.specs.Option.{option_copied};
+
 use crate::config_key::ConfigKey;
-use crate::key_list::KeyList;
-use std::marker::PhantomData;
 
-/// A key is the first of a list.
-pub struct Here;
+/// Values of keys, as a table has them.
+pub trait KeyValues {
+    ghost use Rattle.toml.specs.Data.{Members};
+    ghost use Rattle.nextest_config_elements_toml.specs.Reading.{Reading};
 
-/// A key is at a place behind the first.
-pub struct There<I> {
-    behind: PhantomData<I>,
+    // What a table is read as.
+    ghost reading: { Members → Reading Self };
 }
 
-/// A list of keys that has one, at a place, which a call needn't name.
-pub trait HasKey<K: ConfigKey, I>: KeyList {
+/// Values of keys, that of this one among them.
+pub trait HasKey<K: ConfigKey>: KeyValues {
     ghost use Rattle.std.specs.Prelude.{◌≡◌, Option, Ok};
     ghost use Rattle.std.specs.Option.{option_copied};
     ghost use Rattle.toml.specs.Data.{Members};
     ghost use Rattle.nextest_config_resolution_keys.specs.Keys.{value_of};
 
-    ghost value: { Self.Values → Option K.Value };
+    ghost value: { Self → Option K.Value };
 
-    /// The value of the key, lent.
-    fn value(values: &Self::Values) -> Option<&K::Value>
-        ensures { option_copied result ≡ value values.now };
+    /// The value of the key, lent; `None` where the key is left out.
+    fn value(&self) -> Option<&K::Value>
+        ensures { option_copied result ≡ value self.now };
 
-    // It is the key's value in the table that the values were read of.
-    ghost reads: { (given : Members) (values : Self.Values) → Self.reading given ≡ Ok values
-        → value_of K.key given ≡ Ok (value values) };
+    // It is what stands at the path of the key in the table that they are read of.
+    ghost reads: { (given : Members) (it : Self) → Self.reading given ≡ Ok it
+        → value_of K.key given ≡ Ok (value it) };
 }
 
-impl<K: ConfigKey, R: KeyList> HasKey<K, Here> for (K, R) {
-    ghost use Rattle.nextest_config_resolution_keys.specs.Listed.{reads_first};
-
-    ghost value = { λ values. values.0 };
-
-    ghost reads = { reads_first K.key R.reading };
-
-    fn value(values: &(Option<K::Value>, R::Values)) -> Option<&K::Value> {
-        values.0.as_ref()
-    }
-}
-
-impl<J: ConfigKey, K: ConfigKey, I, R: HasKey<K, I>> HasKey<K, There<I>> for (J, R) {
-    ghost use Rattle.nextest_config_resolution_keys.specs.Listed.{reads_behind};
-
-    ghost value = { λ values. R.value values.1 };
-
-    ghost reads = { reads_behind J.key R.reading K.key R.value R.reads };
-
-    fn value(values: &(Option<J::Value>, R::Values)) -> Option<&K::Value> {
-        R::value(&values.1)
-    }
-}
-
-/// A key of a list, by which its value is found.
+/// A key, by which the values are found that its own is among.
 pub trait ListedKey: ConfigKey {
-    /// Where it stands in the list.
-    type Place;
+    /// These values.
+    type Values: HasKey<Self>;
+}
 
-    /// The list that it is of.
-    type List: HasKey<Self, Self::Place>;
+/// What a table is read as that has several values, among other things.
+pub trait HasValues<V: KeyValues>: KeyValues {
+    ghost use Rattle.std.specs.Prelude.{◌≡◌, Ok};
+    ghost use Rattle.std.specs.Option.{option_copied};
+    ghost use Rattle.toml.specs.Data.{Members};
+
+    ghost values: { Self → V };
+
+    /// The value of a key among them, lent; `None` where the key is left out.
+    fn get<K: ConfigKey>(&self) -> Option<&K::Value>
+    where
+        V: HasKey<K>,
+        ensures { option_copied result ≡ ⟦<V as HasKey<K>>⟧.value (values self.now) };
+
+    // They are read of the same table.
+    ghost reads: { (given : Members) (it : Self) → Self.reading given ≡ Ok it
+        → V.reading given ≡ Ok (values it) };
+}
+
+/// The value that was read for a key, lent; `None` where the key is left out.
+pub fn get_value<K: ListedKey, C: HasValues<K::Values>>(config: &C) -> Option<&K::Value>
+    ensures { option_copied result ≡ K.Values.value (C.values config.now) }
+{
+    config.get::<K>()
 }

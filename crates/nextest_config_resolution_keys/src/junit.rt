@@ -3,7 +3,10 @@ ghost use Rattle.std.specs.Prelude.{◌≡◌};
 ghost use Rattle.nextest_config_resolution_keys.specs.Junit as keys;
 
 use crate::config_key::{ConfigKey, HasFallback};
+use crate::has_key::{HasKey, ListedKey};
+use crate::own::OwnValues;
 use crate::reading::read_text;
+use crate::report::ReportValues;
 use nextest_config_elements_deserialize::{
     Any, deserialize_junit_flaky_fail_status, deserialize_report_skip_policy, whole,
 };
@@ -39,6 +42,22 @@ impl HasFallback for JunitFlakyFailStatusKey {
     }
 }
 
+impl HasKey<JunitFlakyFailStatusKey> for ReportValues {
+    ghost use Rattle.nextest_config_resolution_keys.specs.KeyByKey.{report_read};
+
+    ghost value = { λ it. it.junit_flaky_fail_status };
+
+    ghost reads = { λ given it is. (report_read given it is).junit_flaky_fail_status };
+
+    fn value(&self) -> Option<&JunitFlakyFailStatus> {
+        self.junit_flaky_fail_status.as_ref()
+    }
+}
+
+impl ListedKey for JunitFlakyFailStatusKey {
+    type Values = ReportValues;
+}
+
 /// `junit.path`: the file of the report.
 pub struct JunitPathKey;
 
@@ -56,6 +75,22 @@ impl ConfigKey for JunitPathKey {
     }
 }
 
+impl HasKey<JunitPathKey> for OwnValues {
+    ghost use Rattle.nextest_config_resolution_keys.specs.KeyByKey.{own_read};
+
+    ghost value = { λ it. it.junit_path };
+
+    ghost reads = { λ given it is. (own_read given it is).junit_path };
+
+    fn value(&self) -> Option<&Text> {
+        self.junit_path.as_ref()
+    }
+}
+
+impl ListedKey for JunitPathKey {
+    type Values = OwnValues;
+}
+
 /// `junit.report-name`: the name that stands in the report. Where nothing sets it: `nextest-run`.
 pub struct JunitReportNameKey;
 
@@ -71,6 +106,22 @@ impl ConfigKey for JunitReportNameKey {
     fn read(alloc: Global, value: &Value) -> Result<Text, ValueError> {
         read_text(alloc, value)
     }
+}
+
+impl HasKey<JunitReportNameKey> for OwnValues {
+    ghost use Rattle.nextest_config_resolution_keys.specs.KeyByKey.{own_read};
+
+    ghost value = { λ it. it.junit_report_name };
+
+    ghost reads = { λ given it is. (own_read given it is).junit_report_name };
+
+    fn value(&self) -> Option<&Text> {
+        self.junit_report_name.as_ref()
+    }
+}
+
+impl ListedKey for JunitReportNameKey {
+    type Values = OwnValues;
 }
 
 /// `junit.report-skipped`: which skipped tests are reported. Where nothing sets it: none.
@@ -96,6 +147,22 @@ impl HasFallback for JunitReportSkippedKey {
     fn fallback() -> ReportSkipPolicy {
         ReportSkipPolicy::None
     }
+}
+
+impl HasKey<JunitReportSkippedKey> for ReportValues {
+    ghost use Rattle.nextest_config_resolution_keys.specs.KeyByKey.{report_read};
+
+    ghost value = { λ it. it.junit_report_skipped };
+
+    ghost reads = { λ given it is. (report_read given it is).junit_report_skipped };
+
+    fn value(&self) -> Option<&ReportSkipPolicy> {
+        self.junit_report_skipped.as_ref()
+    }
+}
+
+impl ListedKey for JunitReportSkippedKey {
+    type Values = ReportValues;
 }
 
 /// `junit.store-failure-output`: whether the report has the outputs of tests that fail. Where
@@ -124,6 +191,22 @@ impl HasFallback for JunitStoreFailureOutputKey {
     }
 }
 
+impl HasKey<JunitStoreFailureOutputKey> for ReportValues {
+    ghost use Rattle.nextest_config_resolution_keys.specs.KeyByKey.{report_read};
+
+    ghost value = { λ it. it.junit_store_failure_output };
+
+    ghost reads = { λ given it is. (report_read given it is).junit_store_failure_output };
+
+    fn value(&self) -> Option<&bool> {
+        self.junit_store_failure_output.as_ref()
+    }
+}
+
+impl ListedKey for JunitStoreFailureOutputKey {
+    type Values = ReportValues;
+}
+
 /// `junit.store-success-output`: whether the report has the outputs of tests that pass. Where
 /// nothing sets it, it has not.
 pub struct JunitStoreSuccessOutputKey;
@@ -148,6 +231,22 @@ impl HasFallback for JunitStoreSuccessOutputKey {
     fn fallback() -> bool {
         false
     }
+}
+
+impl HasKey<JunitStoreSuccessOutputKey> for ReportValues {
+    ghost use Rattle.nextest_config_resolution_keys.specs.KeyByKey.{report_read};
+
+    ghost value = { λ it. it.junit_store_success_output };
+
+    ghost reads = { λ given it is. (report_read given it is).junit_store_success_output };
+
+    fn value(&self) -> Option<&bool> {
+        self.junit_store_success_output.as_ref()
+    }
+}
+
+impl ListedKey for JunitStoreSuccessOutputKey {
+    type Values = ReportValues;
 }
 
 /// The name of a report where no profile sets `junit.report-name`.

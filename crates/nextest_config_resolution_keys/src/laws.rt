@@ -6,8 +6,7 @@ ghost use Rattle.nextest_config_resolution_keys.specs.Profile.{IsProfile, profil
 ghost use Rattle.nextest_config_resolution_keys.specs.declared.profile_config.ProfileConfig.{ProfileConfig};
 ghost use Rattle.nextest_config_resolution_keys.specs.Rows.{refusal, refusal_of};
 
-use crate::config_key::ConfigKey;
-use crate::has_key::HasKey;
+use crate::has_key::{HasValues, ListedKey};
 use crate::key_list::KeyList;
 use crate::profile_config::ProfileKeys;
 
@@ -17,12 +16,12 @@ pub fn refused_for<S: KeyList>()
 {}
 
 /// A value that was read of a table is what stands there at the path of its key.
-pub fn reads_each<K: ConfigKey, I, S: HasKey<K, I>>()
-    ensures { (given : Members) (values : S.Values) → S.reading given ≡ Ok values
-        → value_of K.key given ≡ Ok (S.value values) }
+pub fn reads_each<K: ListedKey, C: HasValues<K::Values>>()
+    ensures { (given : Members) (it : C) → C.reading given ≡ Ok it
+        → value_of K.key given ≡ Ok (K.Values.value (C.values it)) }
 {}
 
-/// A table is read as a profile exactly if each list of a profile's keys reads it as its part.
+/// A table is read as a profile exactly if each of a profile's keys reads it as its value.
 pub fn accepted_profile()
     ensures { (given : Members) (it : ProfileConfig)
         → (profile_in given ≡ Ok it) ↔ IsProfile given it }

@@ -2,6 +2,9 @@
 ghost use Rattle.nextest_config_resolution_keys.specs.Output as keys;
 
 use crate::config_key::{ConfigKey, HasFallback};
+use crate::has_key::{HasKey, ListedKey};
+use crate::own::OwnValues;
+use crate::report::ReportValues;
 use nextest_config_elements_choices::{FinalStatusLevel, StatusLevel, TestOutputDisplay};
 use nextest_config_elements_deserialize::{
     deserialize_final_status_level, deserialize_status_level, deserialize_test_output_display,
@@ -35,6 +38,22 @@ impl HasFallback for FailureOutputKey {
     }
 }
 
+impl HasKey<FailureOutputKey> for ReportValues {
+    ghost use Rattle.nextest_config_resolution_keys.specs.KeyByKey.{report_read};
+
+    ghost value = { λ it. it.failure_output };
+
+    ghost reads = { λ given it is. (report_read given it is).failure_output };
+
+    fn value(&self) -> Option<&TestOutputDisplay> {
+        self.failure_output.as_ref()
+    }
+}
+
+impl ListedKey for FailureOutputKey {
+    type Values = ReportValues;
+}
+
 /// `final-status-level`: which statuses are shown at the end of a run. Where nothing sets it: up to
 /// flaky tests.
 pub struct FinalStatusLevelKey;
@@ -59,6 +78,22 @@ impl HasFallback for FinalStatusLevelKey {
     fn fallback() -> FinalStatusLevel {
         FinalStatusLevel::Flaky
     }
+}
+
+impl HasKey<FinalStatusLevelKey> for OwnValues {
+    ghost use Rattle.nextest_config_resolution_keys.specs.KeyByKey.{own_read};
+
+    ghost value = { λ it. it.final_status_level };
+
+    ghost reads = { λ given it is. (own_read given it is).final_status_level };
+
+    fn value(&self) -> Option<&FinalStatusLevel> {
+        self.final_status_level.as_ref()
+    }
+}
+
+impl ListedKey for FinalStatusLevelKey {
+    type Values = OwnValues;
 }
 
 /// `status-level`: which statuses are shown while tests run. Where nothing sets it: up to tests
@@ -87,6 +122,22 @@ impl HasFallback for StatusLevelKey {
     }
 }
 
+impl HasKey<StatusLevelKey> for OwnValues {
+    ghost use Rattle.nextest_config_resolution_keys.specs.KeyByKey.{own_read};
+
+    ghost value = { λ it. it.status_level };
+
+    ghost reads = { λ given it is. (own_read given it is).status_level };
+
+    fn value(&self) -> Option<&StatusLevel> {
+        self.status_level.as_ref()
+    }
+}
+
+impl ListedKey for StatusLevelKey {
+    type Values = OwnValues;
+}
+
 /// `success-output`: when the output of a test is shown that passes. Where nothing sets it: never.
 pub struct SuccessOutputKey;
 
@@ -110,4 +161,20 @@ impl HasFallback for SuccessOutputKey {
     fn fallback() -> TestOutputDisplay {
         TestOutputDisplay::Never
     }
+}
+
+impl HasKey<SuccessOutputKey> for ReportValues {
+    ghost use Rattle.nextest_config_resolution_keys.specs.KeyByKey.{report_read};
+
+    ghost value = { λ it. it.success_output };
+
+    ghost reads = { λ given it is. (report_read given it is).success_output };
+
+    fn value(&self) -> Option<&TestOutputDisplay> {
+        self.success_output.as_ref()
+    }
+}
+
+impl ListedKey for SuccessOutputKey {
+    type Values = ReportValues;
 }

@@ -4,12 +4,14 @@ ghost use Rattle.nextest_config_elements_deserialize.specs.Paths.{profile_path};
 ghost use Rattle.nextest_config_elements_toml.specs.Paths.{GivesAt};
 ghost use Rattle.nextest_config_resolution_keys.specs.Profile.{profile_in, profile_of};
 
+use crate::command::{CommandKeys, CommandValues};
 use crate::config_key::ConfigKey;
 use crate::from_keys::{FromKeys, deserialize_table};
-use crate::has_key::HasKey;
-use crate::has_values::HasValues;
+use crate::has_key::{HasKey, HasValues, KeyValues};
 use crate::key_list::{Both, KeyList};
-use crate::lists::{CommandKeys, OwnKeys, ReportKeys, TestKeys};
+use crate::own::{OwnKeys, OwnValues};
+use crate::report::{ReportKeys, ReportValues};
+use crate::test::{TestKeys, TestValues};
 use nextest_config_elements_toml::{ValueError, refused};
 use std::alloc::Global;
 use toml::{Table, Value};
@@ -20,13 +22,13 @@ pub type ProfileKeys = Both<Both<OwnKeys, CommandKeys>, Both<TestKeys, ReportKey
 /// The values of a profile's keys, as its table has them. Each is `None` where its key is left out.
 pub struct ProfileConfig {
     /// What profiles alone say.
-    pub own: <OwnKeys as KeyList>::Values,
+    pub own: OwnValues,
     /// Which tests are run, and with which arguments.
-    pub command: <CommandKeys as KeyList>::Values,
+    pub command: CommandValues,
     /// How each test is run.
-    pub test: <TestKeys as KeyList>::Values,
+    pub test: TestValues,
     /// How each test is shown and reported.
-    pub report: <ReportKeys as KeyList>::Values,
+    pub report: ReportValues,
 }
 
 // One call drops it, whoever holds it.
@@ -41,62 +43,84 @@ impl Drop for ProfileConfig {
     }
 }
 
-impl HasValues<OwnKeys> for ProfileConfig {
+impl KeyValues for ProfileConfig {
+    ghost use Rattle.nextest_config_resolution_keys.specs.Profile.{profile_in};
+
+    ghost reading = { profile_in };
+}
+
+impl HasValues<OwnValues> for ProfileConfig {
+    ghost use Rattle.nextest_config_resolution_keys.specs.KeyByKey.{profile_read};
+
     ghost values = { λ it. it.own };
 
-    fn get<K: ConfigKey, I>(&self) -> Option<&K::Value>
+    ghost reads = { λ given it is. (profile_read given it is).own };
+
+    fn get<K: ConfigKey>(&self) -> Option<&K::Value>
     where
-        OwnKeys: HasKey<K, I>,
+        OwnValues: HasKey<K>,
     {
-        <OwnKeys as HasKey<K, I>>::value(&self.own)
+        <OwnValues as HasKey<K>>::value(&self.own)
     }
 }
 
-impl HasValues<CommandKeys> for ProfileConfig {
+impl HasValues<CommandValues> for ProfileConfig {
+    ghost use Rattle.nextest_config_resolution_keys.specs.KeyByKey.{profile_read};
+
     ghost values = { λ it. it.command };
 
-    fn get<K: ConfigKey, I>(&self) -> Option<&K::Value>
+    ghost reads = { λ given it is. (profile_read given it is).command };
+
+    fn get<K: ConfigKey>(&self) -> Option<&K::Value>
     where
-        CommandKeys: HasKey<K, I>,
+        CommandValues: HasKey<K>,
     {
-        <CommandKeys as HasKey<K, I>>::value(&self.command)
+        <CommandValues as HasKey<K>>::value(&self.command)
     }
 }
 
-impl HasValues<TestKeys> for ProfileConfig {
+impl HasValues<TestValues> for ProfileConfig {
+    ghost use Rattle.nextest_config_resolution_keys.specs.KeyByKey.{profile_read};
+
     ghost values = { λ it. it.test };
 
-    fn get<K: ConfigKey, I>(&self) -> Option<&K::Value>
+    ghost reads = { λ given it is. (profile_read given it is).test };
+
+    fn get<K: ConfigKey>(&self) -> Option<&K::Value>
     where
-        TestKeys: HasKey<K, I>,
+        TestValues: HasKey<K>,
     {
-        <TestKeys as HasKey<K, I>>::value(&self.test)
+        <TestValues as HasKey<K>>::value(&self.test)
     }
 }
 
-impl HasValues<ReportKeys> for ProfileConfig {
+impl HasValues<ReportValues> for ProfileConfig {
+    ghost use Rattle.nextest_config_resolution_keys.specs.KeyByKey.{profile_read};
+
     ghost values = { λ it. it.report };
 
-    fn get<K: ConfigKey, I>(&self) -> Option<&K::Value>
+    ghost reads = { λ given it is. (profile_read given it is).report };
+
+    fn get<K: ConfigKey>(&self) -> Option<&K::Value>
     where
-        ReportKeys: HasKey<K, I>,
+        ReportValues: HasKey<K>,
     {
-        <ReportKeys as HasKey<K, I>>::value(&self.report)
+        <ReportValues as HasKey<K>>::value(&self.report)
     }
 }
 
 impl FromKeys<ProfileKeys> for ProfileConfig {
-    ghost use Rattle.nextest_config_resolution_keys.specs.Profile.{config_of};
+    ghost use Rattle.nextest_config_resolution_keys.specs.Profile.{profile_values};
 
-    ghost made = { config_of };
+    ghost made = { profile_values };
 
-    fn from_values(_alloc: Global, values: <ProfileKeys as KeyList>::Values) -> ProfileConfig {
+    fn from_values(alloc: Global, values: <ProfileKeys as KeyList>::Values) -> ProfileConfig {
         let ((own, command), (test, report)) = values;
         ProfileConfig {
-            own,
-            command,
-            test,
-            report,
+            own: OwnValues::from_values(alloc, own),
+            command: CommandValues::from_values(alloc, command),
+            test: TestValues::from_values(alloc, test),
+            report: ReportValues::from_values(alloc, report),
         }
     }
 }

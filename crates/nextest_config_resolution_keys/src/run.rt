@@ -3,6 +3,8 @@ ghost use Rattle.nextest_config_resolution_keys.specs.Run as keys;
 
 use crate::bench::thirty_years;
 use crate::config_key::{ConfigKey, HasFallback};
+use crate::has_key::{HasKey, ListedKey};
+use crate::own::OwnValues;
 use nextest_config_elements_choices::MaxFail;
 use nextest_config_elements_deserialize::{
     deserialize_fail_fast, deserialize_global_timeout, deserialize_test_threads,
@@ -38,6 +40,22 @@ impl HasFallback for FailFastKey {
     }
 }
 
+impl HasKey<FailFastKey> for OwnValues {
+    ghost use Rattle.nextest_config_resolution_keys.specs.KeyByKey.{own_read};
+
+    ghost value = { λ it. it.fail_fast };
+
+    ghost reads = { λ given it is. (own_read given it is).fail_fast };
+
+    fn value(&self) -> Option<&MaxFail> {
+        self.fail_fast.as_ref()
+    }
+}
+
+impl ListedKey for FailFastKey {
+    type Values = OwnValues;
+}
+
 /// `global-timeout`: how long a run may take. Where nothing sets it: thirty years.
 pub struct GlobalTimeoutKey;
 
@@ -65,6 +83,22 @@ impl HasFallback for GlobalTimeoutKey {
     }
 }
 
+impl HasKey<GlobalTimeoutKey> for OwnValues {
+    ghost use Rattle.nextest_config_resolution_keys.specs.KeyByKey.{own_read};
+
+    ghost value = { λ it. it.global_timeout };
+
+    ghost reads = { λ given it is. (own_read given it is).global_timeout };
+
+    fn value(&self) -> Option<&GlobalTimeout> {
+        self.global_timeout.as_ref()
+    }
+}
+
+impl ListedKey for GlobalTimeoutKey {
+    type Values = OwnValues;
+}
+
 /// `test-threads`: how many tests run at a time. Where nothing sets it: as many as there are
 /// processors.
 pub struct TestThreadsKey;
@@ -89,4 +123,20 @@ impl HasFallback for TestThreadsKey {
     fn fallback() -> TestThreads {
         TestThreads::NumCpus
     }
+}
+
+impl HasKey<TestThreadsKey> for OwnValues {
+    ghost use Rattle.nextest_config_resolution_keys.specs.KeyByKey.{own_read};
+
+    ghost value = { λ it. it.test_threads };
+
+    ghost reads = { λ given it is. (own_read given it is).test_threads };
+
+    fn value(&self) -> Option<&TestThreads> {
+        self.test_threads.as_ref()
+    }
+}
+
+impl ListedKey for TestThreadsKey {
+    type Values = OwnValues;
 }

@@ -27,7 +27,6 @@ use Rattle.nextest_config_resolution_scripts.specs.declared.script_rule.PlacedSc
 use Rattle.nextest_config_resolution_scripts.specs.declared.script_rule.ScriptRuleId.{ScriptRuleId}
 use Rattle.nextest_config_resolution_sources.specs.Counting.{counting_sources}
 use Rattle.nextest_config_resolution_sources.specs.declared.source.ConfigSource.{ConfigSource}
-use Rattle.nextest_config_resolution_overrides.specs.RuleKeys.{test_group_of}
 
 -- ---- what holds of all items of lists
 
@@ -147,13 +146,13 @@ module _ {F S : Type 0} (Is : IsFilterBy F) (IsSpec : IsSpecBy S) (features : Fe
       (all_downward (λ rule. HasScripts it.scripts rule.config) (λ source. (rules_of_source source).scripts) (counting_sources sources)
       (rules_found Is IsSpec it.scripts (script_rules_upward sources) (kept_before Is IsSpec of_setup of_wrapper scripts_kept) (kept_behind Is IsSpec of_setup of_wrapper scripts_kept)))
 
-  loaded_groups : AllByRecursion (λ rule. HasGroup it.groups (test_group_of rule.placed.config.rule)) it.rules
+  loaded_groups : AllByRecursion (λ rule. HasGroup it.groups rule.placed.config.rule.test_group) it.rules
   loaded_groups =
-      all_read (λ rule. HasGroup it.groups (test_group_of rule.config.rule)) conditions_of Is IsSpec (flat_map (λ source. (rules_of_source source).overrides) (reverse (counting_sources sources))) it.rules
+      all_read (λ rule. HasGroup it.groups rule.config.rule.test_group) conditions_of Is IsSpec (flat_map (λ source. (rules_of_source source).overrides) (reverse (counting_sources sources))) it.rules
       loaded.rules
-      (all_downward (λ rule. HasGroup it.groups (test_group_of rule.config.rule)) (λ source. (rules_of_source source).overrides) (counting_sources sources)
-      (each Is IsSpec (group_checks (is_defined it.groups)) (λ rule. HasGroup it.groups (test_group_of rule.config.rule))
-      (λ rule here. group_found Is IsSpec it.groups rule.id (test_group_of rule.config.rule) here) (rules_upward sources) (kept_before Is IsSpec of_groups (of_setup ++ of_wrapper) names_kept)))
+      (all_downward (λ rule. HasGroup it.groups rule.config.rule.test_group) (λ source. (rules_of_source source).overrides) (counting_sources sources)
+      (each Is IsSpec (group_checks (is_defined it.groups)) (λ rule. HasGroup it.groups rule.config.rule.test_group)
+      (λ rule here. group_found Is IsSpec it.groups rule.id rule.config.rule.test_group here) (rules_upward sources) (kept_before Is IsSpec of_groups (of_setup ++ of_wrapper) names_kept)))
 
 pub scripts_are_defined : {F S : Type 0} (Is : IsFilterBy F) (IsSpec : IsSpecBy S) → ScriptsAreDefined Is IsSpec
 scripts_are_defined Is IsSpec features built_in sources it loaded = loaded_scripts Is IsSpec features built_in sources it loaded

@@ -30,7 +30,6 @@ use Rattle.nextest_config_resolution_scripts.specs.declared.script_rule.PlacedSc
 use Rattle.nextest_config_resolution_scripts.specs.declared.script_rule.ScriptRuleId.{ScriptRuleId}
 use Rattle.nextest_config_resolution_scripts.specs.declared.setup_script.SetupScriptConfig.{SetupScriptConfig}
 use Rattle.nextest_config_resolution_scripts.specs.declared.wrapper_script.WrapperScriptConfig.{WrapperScriptConfig}
-use Rattle.nextest_config_resolution_overrides.specs.RuleKeys.{test_group_of}
 
 taken : (c m : Bool) → cond c true m ≡ (m || (c || false))
 taken true true = refl
@@ -64,7 +63,7 @@ same_each one other same (it ∷ all) =
 
 pub same_checks : (known defined : List ℕ → Bool) → ((name : List ℕ) → known name ≡ defined name) → (rules : List PlacedOverride)
     → flat_map (group_checks known) rules ≡ flat_map (group_checks defined) rules
-same_checks known defined same rules = same_each (group_checks known) (group_checks defined) (λ rule. one_check known defined same rule.id (test_group_of rule.config.rule)) rules
+same_checks known defined same rules = same_each (group_checks known) (group_checks defined) (λ rule. one_check known defined same rule.id rule.config.rule.test_group) rules
 
 one_wrapper : (known defined : List ℕ → Bool) → ((name : List ℕ) → known name ≡ defined name) → (rule : ScriptRuleId) (given : Option (List ℕ)) → wrapper_check known rule given ≡ wrapper_check defined rule given
 one_wrapper known defined same rule None = refl

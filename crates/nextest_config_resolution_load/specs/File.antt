@@ -16,7 +16,7 @@ use Rattle.nextest_config_resolution_scripts.specs.Scripts.{old_scripts_at, scri
 use Rattle.nextest_config_resolution_scripts.specs.declared.script_rule.ScriptRuleConfig.{ScriptRuleConfig}
 use Rattle.nextest_config_resolution_keys.specs.File.{store_dir_at}
 use Rattle.nextest_config_resolution_keys.specs.Keys.{value_of}
-use Rattle.nextest_config_resolution_keys.specs.Profile.{ProfileValues, values_in}
+use Rattle.nextest_config_resolution_keys.specs.Profile.{ProfileTuple, profile_tuple_in}
 use Rattle.nextest_config_resolution_keys.specs.Rows.{both, made_of, nothing}
 
 -- whether each value is one, and else where the first stands that is none
@@ -26,10 +26,10 @@ check_of (Err path) = Err path
 
 -- the values of a profile's keys, and its rules
 abbrev pub TableValues : Type 0
-TableValues = ProfileValues × (Option (List OverrideConfig) × (Option (List ScriptRuleConfig) × Unit {0}))
+TableValues = ProfileTuple × (Option (List OverrideConfig) × (Option (List ScriptRuleConfig) × Unit {0}))
 
 abbrev pub table_values_in : Members → Reading TableValues
-table_values_in = both values_in (both (value_of overrides) (both (value_of script_rules) nothing))
+table_values_in = both profile_tuple_in (both (value_of overrides) (both (value_of script_rules) nothing))
 
 -- the overrides and the script rules of a profile; a key that is left out has none
 abbrev pub rules_with : TableValues → TableRules

@@ -19,7 +19,6 @@ use Rattle.nextest_config_resolution_load.specs.Rules.{is_defined}
 use Rattle.nextest_config_resolution_load.specs.declared.load_error.LoadError.TheVariants.{Refused}
 use Rattle.nextest_config_resolution_load.specs.declared.load_fault.LoadFault.{LoadFault}
 use Rattle.nextest_config_resolution_load.specs.declared.loaded_config.LoadedConfig.{LoadedConfig}
-use Rattle.nextest_config_resolution_overrides.specs.RuleKeys.{test_group_of}
 
 -- what files come to, the lowest first, is the merged tree of them all, with what is built in below
 abbrev pub MergedFiles : Type 0
@@ -72,4 +71,4 @@ ScriptsAreDefined {F} {S} Is IsSpec = (features : FeatureSet) (built_in : Member
 -- and overrides their groups
 abbrev pub GroupsAreDefined : {F S : Type 0} → IsFilterBy F → IsSpecBy S → Type 0
 GroupsAreDefined {F} {S} Is IsSpec = (features : FeatureSet) (built_in : Members) (sources : List ConfigSource) (it : LoadedConfig F S)
-    → IsLoadedAs Is IsSpec features built_in sources it → AllByRecursion (λ rule. HasGroup it.groups (test_group_of rule.placed.config.rule)) it.rules
+    → IsLoadedAs Is IsSpec features built_in sources it → AllByRecursion (λ rule. HasGroup it.groups rule.placed.config.rule.test_group) it.rules

@@ -12,8 +12,6 @@ use Rattle.nextest_config_resolution_load.specs.declared.load_fault.PlatformSide
 use Rattle.nextest_config_resolution_load.specs.declared.load_fault.PlatformSide.TheVariants as side
 use Rattle.nextest_config_resolution_load.specs.declared.rule_id.RuleId.{RuleId}
 use Rattle.nextest_config_resolution_load.specs.declared.rule_id.RuleId.TheVariants as rule_of
-use Rattle.nextest_config_resolution_keys.specs.Lists.{default_filter_of}
-use Rattle.nextest_config_resolution_overrides.specs.RuleKeys.{filter_of, platform_of, test_group_of}
 use Rattle.nextest_config_resolution_overrides.specs.declared.groups.NamedGroup.{NamedGroup}
 use Rattle.nextest_config_resolution_overrides.specs.declared.override_config.OverrideConfig.{OverrideConfig}
 use Rattle.nextest_config_resolution_overrides.specs.declared.override_id.OverrideId.{OverrideId}
@@ -64,18 +62,18 @@ abbrev pub target_in : Option OverridePlatforms → Option (List ℕ)
 target_in platform = option_and_then (λ platforms. platforms.target) platform
 
 abbrev pub host_of : OverrideConfig → Option (List ℕ)
-host_of config = host_in (platform_of config.rule)
+host_of config = host_in config.rule.platform
 
 abbrev pub target_of : OverrideConfig → Option (List ℕ)
-target_of config = target_in (platform_of config.rule)
+target_of config = target_in config.rule.platform
 
 -- those of an override, and of a script rule, which has no default filter
 abbrev pub conditions_of : PlacedOverride → Conditions
 conditions_of rule = record {
   host = host_of rule.config;
   target = target_of rule.config;
-  filter = filter_of rule.config.rule;
-  default_filter = default_filter_of rule.config.command;
+  filter = rule.config.rule.filter;
+  default_filter = rule.config.command.default_filter;
 }
 
 abbrev pub script_conditions_of : PlacedScriptRule → Conditions
@@ -153,7 +151,7 @@ group_checks_of is_known id (Some group.Global) = []
 group_checks_of is_known id (Some (group.Custom name)) = must_hold (is_known name) (unknown_group id name)
 
 abbrev pub group_checks : (List ℕ → Bool) → PlacedOverride → List Check
-group_checks is_known rule = group_checks_of is_known rule.id (test_group_of rule.config.rule)
+group_checks is_known rule = group_checks_of is_known rule.id rule.config.rule.test_group
 
 -- a script is defined
 abbrev pub has_script : {A : Type 0} → List (NamedScript A) → List ℕ → Bool

@@ -1,13 +1,11 @@
 -- What is refused of a table of platforms.
 use Rattle.std.proofs.Common.{◌≡◌, [], Ok, Err, ap}
 use Rattle.nextest_config_elements_toml.specs.Paths.{GivesAt}
-use Rattle.nextest_config_elements_toml.specs.Reading.{Path, Reading}
+use Rattle.nextest_config_elements_toml.specs.Reading.{Reading}
 use Rattle.nextest_config_elements_toml.specs.declared.value_error.ValueError.{ValueError}
 use Rattle.nextest_config_elements_toml.specs.declared.value_error.ValueError.TheVariants as error
+use Rattle.nextest_config_resolution_keys.proofs.Made.{err_inj}
 use Rattle.nextest_config_resolution_keys.specs.Rows.{made_of}
-
-err_inj : {A : Type 0} (path way : Path) → ◌≡◌ {A = Reading A} (Err path) (Err way) → path ≡ way
-err_inj path way e = cc
 
 -- it is refused of what is made of its values
 pub gives_made : {A B : Type 0} (make : A → B) (told : ValueError) (x : Reading A) → GivesAt {A = A} [] (Err told) x → GivesAt {A = B} [] (Err told) (made_of make x)

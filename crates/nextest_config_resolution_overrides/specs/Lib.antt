@@ -1,6 +1,7 @@
 pub mod Condition
 pub mod Groups
 pub mod Overrides
+pub mod KeyByKey
 pub mod Platforms
 pub mod RuleKeys
 pub mod Schedule

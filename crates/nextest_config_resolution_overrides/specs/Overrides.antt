@@ -1,41 +1,43 @@
 -- The overrides of a profile, as a file says them.
-use Rattle.std.specs.Prelude.{◌≡◌, List, [], ◌∷◌, ◌++◌, Ok, Err, codes}
+use Rattle.std.specs.Prelude.{List, [], ◌∷◌, ◌++◌, Err, codes}
 use Rattle.toml.specs.Data.{Data, array, Members}
 use Rattle.nextest_config_elements_deserialize.specs.Keys.{table_by}
 use Rattle.nextest_config_elements_toml.specs.Reading.{Reading}
 use Rattle.nextest_config_resolution_keys.specs.Items.{items_in}
 use Rattle.nextest_config_resolution_keys.specs.Keys.{Key}
-use Rattle.nextest_config_resolution_keys.specs.Lists.{CommandValues, ReportValues, TestValues, command_in, command_rows, report_in, report_rows, test_in, test_rows}
+use Rattle.nextest_config_resolution_keys.specs.Command.{CommandTuple, IsCommand, command_rows, command_tuple_in, command_values}
+use Rattle.nextest_config_resolution_keys.specs.Report.{IsReport, ReportTuple, report_rows, report_tuple_in, report_values}
 use Rattle.nextest_config_resolution_keys.specs.Rows.{Row, both, made_of}
-use Rattle.nextest_config_resolution_overrides.specs.RuleKeys.{RuleValues, rule_in, rule_rows}
+use Rattle.nextest_config_resolution_keys.specs.Test.{IsTest, TestTuple, test_rows, test_tuple_in, test_values}
+use Rattle.nextest_config_resolution_overrides.specs.RuleKeys.{IsRule, RuleTuple, rule_rows, rule_tuple_in, rule_values}
 use Rattle.nextest_config_resolution_overrides.specs.declared.override_config.OverrideConfig.{OverrideConfig}
 
 -- the keys of an override
 abbrev pub override_rows : List Row
 override_rows = (rule_rows ++ command_rows) ++ (test_rows ++ report_rows)
 
--- their values, and what a table says of them
-abbrev pub OverrideValues : Type 0
-OverrideValues = (RuleValues × CommandValues) × (TestValues × ReportValues)
+-- their values as tuples, and what a table says of them
+abbrev pub OverrideTuple : Type 0
+OverrideTuple = (RuleTuple × CommandTuple) × (TestTuple × ReportTuple)
 
-abbrev pub values_in : Members → Reading OverrideValues
-values_in = both (both rule_in command_in) (both test_in report_in)
+abbrev pub override_tuple_in : Members → Reading OverrideTuple
+override_tuple_in = both (both rule_tuple_in command_tuple_in) (both test_tuple_in report_tuple_in)
 
--- an override of its values
-abbrev pub config_of : OverrideValues → OverrideConfig
-config_of it = record { rule = it.0.0; command = it.0.1; test = it.1.0; report = it.1.1 }
+-- an override of them
+abbrev pub override_values : OverrideTuple → OverrideConfig
+override_values it = record { rule = rule_values it.0.0; command = command_values it.0.1; test = test_values it.1.0; report = report_values it.1.1 }
 
 -- a table as an override: refused for the first place, by the bytes of the keys, at which one of
 -- its keys refuses it
 unfoldable pub override_in : Members → Reading OverrideConfig
-override_in given = made_of config_of (values_in given)
+override_in given = made_of override_values (override_tuple_in given)
 
--- each list of its keys reads a table as its part of an override
+-- each of its keys reads a table as its value
 pub record IsOverride (given : Members) (it : OverrideConfig) : Type 0 where
-  pub rule : rule_in given ≡ Ok it.rule
-  pub command : command_in given ≡ Ok it.command
-  pub test : test_in given ≡ Ok it.test
-  pub report : report_in given ≡ Ok it.report
+  pub rule : IsRule given it.rule
+  pub command : IsCommand given it.command
+  pub test : IsTest given it.test
+  pub report : IsReport given it.report
 
 -- a list of tables, each of which is one
 abbrev pub overrides_of : Data → Reading (List OverrideConfig)

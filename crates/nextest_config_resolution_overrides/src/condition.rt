@@ -2,8 +2,9 @@
 ghost use Rattle.nextest_config_resolution_overrides.specs.Condition as keys;
 
 use crate::platforms::{OverridePlatforms, platforms_of};
+use crate::rule::RuleValues;
 use nextest_config_elements_toml::ValueError;
-use nextest_config_resolution_keys::{ConfigKey, read_text};
+use nextest_config_resolution_keys::{ConfigKey, HasKey, ListedKey, read_text};
 use nextest_text::Text;
 use std::alloc::Global;
 use toml::Value;
@@ -25,6 +26,22 @@ impl ConfigKey for FilterKey {
     }
 }
 
+impl HasKey<FilterKey> for RuleValues {
+    ghost use Rattle.nextest_config_resolution_overrides.specs.KeyByKey.{rule_read};
+
+    ghost value = { λ it. it.filter };
+
+    ghost reads = { λ given it is. (rule_read given it is).filter };
+
+    fn value(&self) -> Option<&Text> {
+        self.filter.as_ref()
+    }
+}
+
+impl ListedKey for FilterKey {
+    type Values = RuleValues;
+}
+
 /// `platform`: the platforms on which a rule holds.
 pub struct PlatformKey;
 
@@ -40,4 +57,20 @@ impl ConfigKey for PlatformKey {
     fn read(alloc: Global, value: &Value) -> Result<OverridePlatforms, ValueError> {
         platforms_of(alloc, value)
     }
+}
+
+impl HasKey<PlatformKey> for RuleValues {
+    ghost use Rattle.nextest_config_resolution_overrides.specs.KeyByKey.{rule_read};
+
+    ghost value = { λ it. it.platform };
+
+    ghost reads = { λ given it is. (rule_read given it is).platform };
+
+    fn value(&self) -> Option<&OverridePlatforms> {
+        self.platform.as_ref()
+    }
+}
+
+impl ListedKey for PlatformKey {
+    type Values = RuleValues;
 }

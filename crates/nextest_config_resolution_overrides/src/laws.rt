@@ -9,7 +9,7 @@ ghost use Rattle.nextest_config_resolution_overrides.specs.declared.override_con
 use crate::override_config::OverrideKeys;
 use nextest_config_resolution_keys::laws::refused_for;
 
-/// A table is read as an override exactly if each list of an override's keys reads it as its part.
+/// A table is read as an override exactly if each of an override's keys reads it as its value.
 pub fn accepted_override()
     ensures { (given : Members) (it : OverrideConfig)
         → (override_in given ≡ Ok it) ↔ IsOverride given it }

@@ -23,5 +23,5 @@ pub use override_id::OverrideId;
 pub use overrides::OverridesKey;
 pub use placed_override::PlacedOverride;
 pub use platforms::{HostKey, OverridePlatforms, PlatformKeys, TargetKey};
-pub use rule::RuleKeys;
+pub use rule::{RuleKeys, RuleValues};
 pub use schedule::{PriorityKey, TestGroupKey};

@@ -2,12 +2,12 @@
 ghost use Rattle.nextest_config_elements_deserialize.specs.Keys.{table_by};
 ghost use Rattle.nextest_config_resolution_overrides.specs.Overrides.{override_in};
 
-use crate::rule::RuleKeys;
+use crate::rule::{RuleKeys, RuleValues};
 use nextest_config_elements_deserialize::DeserializeValue;
 use nextest_config_elements_toml::{ValueError, refused};
 use nextest_config_resolution_keys::{
-    Both, CommandKeys, ConfigKey, FromKeys, HasKey, HasValues, KeyList, ReportKeys, TestKeys,
-    deserialize_table,
+    Both, CommandKeys, CommandValues, ConfigKey, FromKeys, HasKey, HasValues, KeyList, KeyValues,
+    ReportKeys, ReportValues, TestKeys, TestValues, deserialize_table,
 };
 use std::alloc::Global;
 use toml::Value;
@@ -19,13 +19,13 @@ pub type OverrideKeys = Both<Both<RuleKeys, CommandKeys>, Both<TestKeys, ReportK
 /// out.
 pub struct OverrideConfig {
     /// On which platforms and tests it holds, and in which order and group these run.
-    pub rule: <RuleKeys as KeyList>::Values,
+    pub rule: RuleValues,
     /// Which tests are run, and with which arguments.
-    pub command: <CommandKeys as KeyList>::Values,
+    pub command: CommandValues,
     /// How a test is run.
-    pub test: <TestKeys as KeyList>::Values,
+    pub test: TestValues,
     /// How a test is shown and reported.
-    pub report: <ReportKeys as KeyList>::Values,
+    pub report: ReportValues,
 }
 
 // One call drops it, whoever holds it.
@@ -40,62 +40,84 @@ impl Drop for OverrideConfig {
     }
 }
 
-impl HasValues<RuleKeys> for OverrideConfig {
+impl KeyValues for OverrideConfig {
+    ghost use Rattle.nextest_config_resolution_overrides.specs.Overrides.{override_in};
+
+    ghost reading = { override_in };
+}
+
+impl HasValues<RuleValues> for OverrideConfig {
+    ghost use Rattle.nextest_config_resolution_overrides.specs.KeyByKey.{override_read};
+
     ghost values = { λ it. it.rule };
 
-    fn get<K: ConfigKey, I>(&self) -> Option<&K::Value>
+    ghost reads = { λ given it is. (override_read given it is).rule };
+
+    fn get<K: ConfigKey>(&self) -> Option<&K::Value>
     where
-        RuleKeys: HasKey<K, I>,
+        RuleValues: HasKey<K>,
     {
-        <RuleKeys as HasKey<K, I>>::value(&self.rule)
+        <RuleValues as HasKey<K>>::value(&self.rule)
     }
 }
 
-impl HasValues<CommandKeys> for OverrideConfig {
+impl HasValues<CommandValues> for OverrideConfig {
+    ghost use Rattle.nextest_config_resolution_overrides.specs.KeyByKey.{override_read};
+
     ghost values = { λ it. it.command };
 
-    fn get<K: ConfigKey, I>(&self) -> Option<&K::Value>
+    ghost reads = { λ given it is. (override_read given it is).command };
+
+    fn get<K: ConfigKey>(&self) -> Option<&K::Value>
     where
-        CommandKeys: HasKey<K, I>,
+        CommandValues: HasKey<K>,
     {
-        <CommandKeys as HasKey<K, I>>::value(&self.command)
+        <CommandValues as HasKey<K>>::value(&self.command)
     }
 }
 
-impl HasValues<TestKeys> for OverrideConfig {
+impl HasValues<TestValues> for OverrideConfig {
+    ghost use Rattle.nextest_config_resolution_overrides.specs.KeyByKey.{override_read};
+
     ghost values = { λ it. it.test };
 
-    fn get<K: ConfigKey, I>(&self) -> Option<&K::Value>
+    ghost reads = { λ given it is. (override_read given it is).test };
+
+    fn get<K: ConfigKey>(&self) -> Option<&K::Value>
     where
-        TestKeys: HasKey<K, I>,
+        TestValues: HasKey<K>,
     {
-        <TestKeys as HasKey<K, I>>::value(&self.test)
+        <TestValues as HasKey<K>>::value(&self.test)
     }
 }
 
-impl HasValues<ReportKeys> for OverrideConfig {
+impl HasValues<ReportValues> for OverrideConfig {
+    ghost use Rattle.nextest_config_resolution_overrides.specs.KeyByKey.{override_read};
+
     ghost values = { λ it. it.report };
 
-    fn get<K: ConfigKey, I>(&self) -> Option<&K::Value>
+    ghost reads = { λ given it is. (override_read given it is).report };
+
+    fn get<K: ConfigKey>(&self) -> Option<&K::Value>
     where
-        ReportKeys: HasKey<K, I>,
+        ReportValues: HasKey<K>,
     {
-        <ReportKeys as HasKey<K, I>>::value(&self.report)
+        <ReportValues as HasKey<K>>::value(&self.report)
     }
 }
 
 impl FromKeys<OverrideKeys> for OverrideConfig {
-    ghost use Rattle.nextest_config_resolution_overrides.specs.Overrides.{config_of};
+    ghost use Rattle.nextest_config_resolution_overrides.specs.Overrides.{override_values};
 
-    ghost made = { config_of };
+    ghost made = { override_values };
 
-    fn from_values(_alloc: Global, values: <OverrideKeys as KeyList>::Values) -> OverrideConfig {
+    fn from_values(alloc: Global, values: <OverrideKeys as KeyList>::Values) -> OverrideConfig {
         let ((rule, command), (test, report)) = values;
         OverrideConfig {
-            rule,
-            command,
-            test,
-            report,
+            rule: RuleValues::from_values(alloc, rule),
+            command: CommandValues::from_values(alloc, command),
+            test: TestValues::from_values(alloc, test),
+            report: ReportValues::from_values(alloc, report),
         }
     }
 }

@@ -36,7 +36,6 @@ use Rattle.nextest_config_resolution_profiles.proofs.SameChain.{same_chain, same
 use Rattle.nextest_config_resolution_scripts.specs.declared.script_config.ScriptConfig.{ScriptConfig}
 use Rattle.nextest_config_resolution_scripts.specs.declared.setup_script.SetupScriptConfig.{SetupScriptConfig}
 use Rattle.nextest_config_resolution_scripts.specs.declared.wrapper_script.WrapperScriptConfig.{WrapperScriptConfig}
-use Rattle.nextest_config_resolution_keys.specs.Lists as key
 use Rattle.nextest_config_resolution_settings.specs.Layers.{in_command}
 use Rattle.nextest_config_resolution_settings.specs.Layers.{Layers}
 use Rattle.nextest_config_resolution_settings.specs.Nearest.{IsNearest, Source}
@@ -48,6 +47,7 @@ use Rattle.nextest_config_resolution_settings.specs.declared.test_settings.TestS
 use Rattle.nextest_config_resolution_settings.proofs.Least.{one_least}
 use Rattle.nextest_config_resolution_settings.proofs.Unique.{one_nearest}
 use Rattle.nextest_config_resolution_keys.specs.declared.profile_config.ProfileConfig.{ProfileConfig}
+use Rattle.nextest_config_resolution_keys.specs.Command as command_key
 use Rattle.nextest_filtering_arguments.specs.declared.ban.FiltersetKind.{FiltersetKind}
 use Rattle.nextest_filtering_arguments.specs.declared.ban.FiltersetKind.TheVariants as kind
 use Rattle.nextest_filtering_filters.specs.Query.{Binary, Test}
@@ -55,7 +55,6 @@ use Rattle.nextest_filtering_filters.specs.declared.known_groups.KnownGroups.{Kn
 use Rattle.nextest_filtering_filters.specs.declared.known_groups.KnownGroups.TheVariants as groups
 use Rattle.nextest_filtering_ast.specs.declared.leaf.BuildPlatform.{BuildPlatform}
 use Rattle.nextest_filtering_ast.specs.declared.leaf.BuildPlatform.TheVariants as built
-use Rattle.nextest_config_resolution_overrides.specs.RuleKeys.{test_group_of}
 
 module _ {F Cx : Type 0} {IsParsed : Cx → FiltersetKind → KnownGroups → List ℕ → F → Type 0} {OnBinary : F → F → Binary → Option Bool → Type 0} {OnTest : F → F → Test → Bool → Type 0}
     {asks_groups has_runtime_leaves serves_as_default : F → Bool} (laws : FiltersLaws IsParsed OnBinary OnTest asks_groups has_runtime_leaves serves_as_default) (cx : Cx) where
@@ -198,10 +197,10 @@ module _ {F Cx : Type 0} {IsParsed : Cx → FiltersetKind → KnownGroups → Li
 
     -- what overrides set besides filters, they both set
     sets_group : (x y : OverrideOn F S) → RulesAlike x y → (v : TestGroup) → group_set x ≡ Some v → (w : TestGroup) × (group_set y ≡ Some w) × (v ≡ w)
-    sets_group x y r v is = (v, ap (λ (placed : PlacedOverride). (test_group_of placed.config.rule)) r.placed ∙ is, refl)
+    sets_group x y r v is = (v, ap (λ (placed : PlacedOverride). placed.config.rule.test_group) r.placed ∙ is, refl)
 
     sets_group_back : (x y : OverrideOn F S) → RulesAlike x y → (w : TestGroup) → group_set y ≡ Some w → (v : TestGroup) × (group_set x ≡ Some v)
-    sets_group_back x y r w is = (w, ap (λ (placed : PlacedOverride). (test_group_of placed.config.rule)) (sym r.placed) ∙ is)
+    sets_group_back x y r w is = (w, ap (λ (placed : PlacedOverride). placed.config.rule.test_group) (sym r.placed) ∙ is)
 
     group_too : (test : Test) (it : TestGroup) → IsGroupFor OnTest one test it → IsGroupFor OnTest other test it
     group_too test it (inl (rule, least)) =
@@ -294,7 +293,7 @@ module _ {F Cx : Type 0} {IsParsed : Cx → FiltersetKind → KnownGroups → Li
       → other_names ≡ names → other_chain ≡ chain → (here : IsDefaultFilterOf profiles filters names chain it) → (there : IsDefaultFilterOf others more other_names other_chain second)
       → Is purpose.Default here.text it.filter.now → Is purpose.Default there.text second.filter.now → Defaults it second
   early_alike profiles others filters more names other_names chain other_chain it second same_names same_values here there read also =
-      let same = one_nearest here.nearest (subst (λ (values : List ProfileConfig). IsNearest (in_command key.default_filter_of) values there.place there.text) same_values there.nearest) in
+      let same = one_nearest here.nearest (subst (λ (values : List ProfileConfig). IsNearest (in_command command_key.default_filter_of) values there.place there.text) same_values there.nearest) in
       record {
         filter = read_alike purpose.Default there.text it.filter.now second.filter.now (subst (λ (text : List ℕ). Is purpose.Default text it.filter.now) same.0 read) also;
         profile = same_Some second.profile.now it.profile.now

@@ -10,11 +10,11 @@ use Rattle.nextest_config_resolution_load.specs.declared.loaded_config.NamedProf
 use Rattle.nextest_config_resolution_profiles.specs.Chains.{AreAt}
 use Rattle.nextest_config_resolution_profiles.specs.Laws.{DefaultIsRead}
 use Rattle.nextest_config_resolution_profiles.specs.Whole.{AreFiltered}
-use Rattle.nextest_config_resolution_keys.specs.Lists as key
 use Rattle.nextest_config_resolution_settings.specs.Layers.{in_command}
 use Rattle.nextest_config_resolution_settings.specs.Nearest.{IsNearest}
 use Rattle.nextest_config_resolution_keys.specs.File.{Named, default_filter_in}
 use Rattle.nextest_config_resolution_keys.specs.declared.profile_config.ProfileConfig.{ProfileConfig}
+use Rattle.nextest_config_resolution_keys.specs.Command as command_key
 
 -- what stands at a place of two lists
 pub zip_at : {A B : Type 0} (R : A → B → Type 0) (xs : List A) (ys : List B) (i : ℕ) (x : A) → AllZip R xs ys → slice_get xs i ≡ Some x → (y : B) × (slice_get ys i ≡ Some y) × R x y
@@ -96,15 +96,15 @@ pub record DefaultAt {F : Type 0} (profiles : List NamedProfile) (filters : List
   pub read : slice_get filters (get_or places near 0) ≡ Some (Some found)
 
 pub default_at : {F : Type 0} (profiles : List NamedProfile) (filters : List (Option F)) (places : List ℕ) (values : List ProfileConfig) (near : ℕ) (text : List ℕ)
-    → All (λ place. place < length profiles) places → AreAt (map named_of profiles) places values → AreFiltered profiles filters → IsNearest (in_command key.default_filter_of) values near text
+    → All (λ place. place < length profiles) places → AreAt (map named_of profiles) places values → AreFiltered profiles filters → IsNearest (in_command command_key.default_filter_of) values near text
     → DefaultAt profiles filters places near text
 default_at profiles filters places values near text inside at filtered nearest =
-    let here = nearest_at (in_command key.default_filter_of) values near text nearest in
+    let here = nearest_at (in_command command_key.default_filter_of) values near text nearest in
     let within : near < length places = omega (arith, slice_get_within values near nearest.layer here, as_many (map named_of profiles) places values at) in
     let place = get_or places near 0 in
     let there = stands_at profiles place (inside near 0 within) in
     let sets : default_filter_in there.0.config ≡ Some text =
-    ap (in_command key.default_filter_of) (config_at profiles places values near place there.0 nearest.layer at here (slice_get-get_or places near 0 within) there.1) ∙ nearest.sets in
+    ap (in_command command_key.default_filter_of) (config_at profiles places values near place there.0 nearest.layer at here (slice_get-get_or places near 0 within) there.1) ∙ nearest.sets in
     let beside = zip_at (λ profile found. is_some found ≡ is_some (default_filter_in profile.config)) profiles filters place there.0 filtered there.1 in
     let found = some_found (default_filter_in there.0.config) beside.0 text beside.2 sets in
     record { within = within; profile = there.0; stands = there.1; sets = sets; found = found.0; read = beside.1 ∙ ap Some found.1 }

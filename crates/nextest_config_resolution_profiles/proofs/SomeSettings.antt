@@ -34,7 +34,6 @@ use Rattle.nextest_config_resolution_settings.specs.declared.default_filter.Comp
 use Rattle.nextest_config_resolution_settings.proofs.Some.{some_settings}
 use Rattle.nextest_config_resolution_sources.specs.declared.source.ConfigSource.{ConfigSource}
 use Rattle.nextest_config_elements_versions.specs.declared.feature.FeatureSet.{FeatureSet}
-use Rattle.nextest_config_resolution_keys.specs.Lists.{default_filter_of}
 
 -- ---- rules of which each holds or doesn't
 
@@ -167,7 +166,7 @@ module _ {F Cx : Type 0} {IsParsed : Cx → FiltersetKind → KnownGroups → Li
     chosen_read early it host target rules each read (inl found) =
         let at = division_has (λ (rule : OverrideOn F S). IsReadRule (IsFilterIn IsParsed has_runtime_leaves cx) IsSpec rule.rule.placed rule.rule) found.least.front found.rule found.least.back
         (subst (AllByRecursion (λ (rule : OverrideOn F S). IsReadRule (IsFilterIn IsParsed has_runtime_leaves cx) IsSpec rule.rule.placed rule.rule)) found.least.divided (put_have host target rules each)) in
-        set_default (default_filter_of found.rule.rule.placed.config.command) found.rule.rule.compiled.default_filter it.filter.now found.set.filter at.compiled.default_filter
+        set_default found.rule.rule.placed.config.command.default_filter found.rule.rule.compiled.default_filter it.filter.now found.set.filter at.compiled.default_filter
 
     -- a profile of a configuration on platforms
     record IsProfile (features : FeatureSet) (root : List ℕ) (sources : List ConfigSource) (config : Whole F S) (name : List ℕ) (early : Early F S) (host target : Facts) (profile : Evaluatable F S) : Type 0 where

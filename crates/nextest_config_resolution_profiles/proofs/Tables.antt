@@ -19,10 +19,9 @@ use Rattle.nextest_config_resolution_tree.specs.Tree.{merge}
 use Rattle.nextest_config_resolution_tree.proofs.Standings.{joint, get_merge}
 use Rattle.nextest_config_elements_deserialize.specs.Tables.{IsTable}
 use Rattle.nextest_config_resolution_keys.specs.File.{Named, profiles_at, profiles_in, profiles_of, store_dir_at, store_dir_in, store_dir_of}
-use Rattle.nextest_config_resolution_keys.proofs.Made.{read_of}
 use Rattle.nextest_config_resolution_keys.specs.Keys.{value_of}
-use Rattle.nextest_config_resolution_keys.specs.Listed.{joined_parts}
-use Rattle.nextest_config_resolution_keys.specs.Profile.{config_of, profile_in, profile_of, values_in}
+use Rattle.nextest_config_resolution_keys.specs.Listed.{joined_parts, read_of}
+use Rattle.nextest_config_resolution_keys.specs.Profile.{profile_in, profile_of, profile_tuple_in, profile_values}
 use Rattle.nextest_config_resolution_keys.specs.Rows.{both, made_of, nothing}
 use Rattle.nextest_config_resolution_keys.specs.declared.profile_config.ProfileConfig.{ProfileConfig}
 use Rattle.nextest_config_elements_deserialize.specs.Keys.{table_by}
@@ -106,8 +105,8 @@ values_too : (members : Members) (found : TableRules) → rules_in_profile membe
 unfolding rules_in_profile profile_in
 values_too members found e =
     let made = read_of rules_with (table_values_in members) found e in
-    let parts = joined_parts (values_in members) (both (value_of overrides) (both (value_of script_rules) nothing) members) made.values made.reads in
-    (config_of made.values.0, ap (made_of config_of) parts.0)
+    let parts = joined_parts (profile_tuple_in members) (both (value_of overrides) (both (value_of script_rules) nothing) members) made.values made.reads in
+    (profile_values made.values.0, ap (made_of profile_values) parts.0)
 
 -- a profile, and those behind it, by what is read of each
 with_others : (name : List ℕ) (first : Reading ProfileRules) (more : Reading (List ProfileRules)) (all : List ProfileRules)

@@ -16,13 +16,12 @@ use Rattle.nextest_config_resolution_profiles.specs.Platforms.{ScriptRuleOn, on_
 use Rattle.nextest_config_resolution_profiles.specs.RuleLaws.{EnabledIsDefined}
 use Rattle.nextest_filtering_filters.specs.Query.{Test}
 use Rattle.nextest_config_resolution_profiles.proofs.PutOn.{named_have}
-use Rattle.nextest_config_resolution_overrides.specs.RuleKeys.{test_group_of}
 
 pub nothing_is_undefined : {F S : Type 0} (Is : IsFilterBy F) (IsSpec : IsSpecBy S) (IsTooDeep : List ℕ → Type 0) → NothingIsUndefined Is IsSpec IsTooDeep
 nothing_is_undefined {F} {S} Is IsSpec IsTooDeep features root sources config name it loaded early =
     let names = early.chained.names in
     let So : ScriptConfig → LoadedScriptRule F S → Type 0 = λ scripts rule. HasScripts scripts rule.placed.config in
-    let In : List NamedGroup → LoadedOverride F S → Type 0 = λ groups rule. HasGroup groups (test_group_of rule.placed.config.rule) in record {
+    let In : List NamedGroup → LoadedOverride F S → Type 0 = λ groups rule. HasGroup groups rule.placed.config.rule.test_group in record {
       scripts = subst (AllByRecursion (So it.scripts)) (sym early.scripted)
           (named_have (in_profile script_profile_of) (So it.scripts) config.loaded.script_rules names
           (subst (λ (scripts : ScriptConfig). AllByRecursion (So scripts) config.loaded.script_rules) (sym early.defined)

@@ -9,13 +9,14 @@ use Rattle.nextest_config_resolution_inheritance.specs.Inheritance.{Name}
 use Rattle.nextest_config_resolution_load.specs.Load.{IsFilterBy, IsLoaded, IsSpecBy, merged_of}
 use Rattle.nextest_config_resolution_load.specs.declared.load_error.LoadError.{LoadError}
 use Rattle.nextest_config_resolution_load.specs.declared.loaded_config.NamedProfile.{NamedProfile}
-use Rattle.nextest_config_resolution_keys.specs.Lists as key
 use Rattle.nextest_config_resolution_settings.specs.Layers.{in_command, in_own}
 use Rattle.nextest_config_resolution_settings.specs.Nearest.{IsNearest}
 use Rattle.nextest_config_resolution_settings.specs.Rules.{profile_of, rules_of, script_profile_of}
 use Rattle.nextest_config_resolution_sources.specs.declared.source.ConfigSource.{ConfigSource}
 use Rattle.nextest_config_resolution_keys.specs.File.{Named, default_filter_in}
 use Rattle.nextest_config_resolution_keys.specs.declared.profile_config.ProfileConfig.{ProfileConfig}
+use Rattle.nextest_config_resolution_keys.specs.Own as own_key
+use Rattle.nextest_config_resolution_keys.specs.Command as command_key
 use Rattle.nextest_config_resolution_settings.specs.declared.default_filter.CompiledDefaultFilter.{CompiledDefaultFilter}
 use Rattle.nextest_config_resolution_settings.specs.declared.default_filter.CompiledDefaultFilterSection.TheVariants as section
 use Rattle.nextest_config_resolution_profiles.specs.declared.profile_error.ProfileError.{ProfileError}
@@ -58,7 +59,7 @@ IsConfig Is IsSpec IsTooDeep features root sources (Err refused) = IsLoaded Is I
 pub record IsDefaultFilterOf {F : Type 0} (profiles : List NamedProfile) (filters : List (Option F)) (names : List Name) (chain : List ProfileConfig) (it : CompiledDefaultFilter F) : Type 0 where
   pub place : ℕ
   pub text : List ℕ
-  pub nearest : IsNearest (in_command key.default_filter_of) chain place text
+  pub nearest : IsNearest (in_command command_key.default_filter_of) chain place text
   pub named : slice_get names place ≡ Some it.profile.now
   pub at : ℕ
   pub from : NamedProfile
@@ -93,4 +94,4 @@ KnownRise (Ok it) = ⊤
 
 -- whether a profile of a chain sets the path of the report in JUnit's form
 abbrev pub SetsJunit : List ProfileConfig → Type 0
-SetsJunit chain = (place : ℕ) × (path : List ℕ) × IsNearest (in_own key.junit_path_of) chain place path
+SetsJunit chain = (place : ℕ) × (path : List ℕ) × IsNearest (in_own own_key.junit_path_of) chain place path

@@ -5,7 +5,6 @@ use Rattle.nextest_config_resolution_overrides.specs.declared.groups.NamedGroup.
 use Rattle.nextest_config_resolution_profiles.specs.Early.{Early}
 use Rattle.nextest_config_resolution_profiles.specs.Platforms.{IsChosenDefault, OverrideOn, ScriptRuleOn, on_platforms}
 use Rattle.nextest_config_resolution_scripts.specs.declared.script_config.ScriptConfig.{ScriptConfig}
-use Rattle.nextest_config_resolution_keys.specs.Lists as key
 use Rattle.nextest_config_resolution_settings.specs.Layers.{in_own, in_report}
 use Rattle.nextest_config_resolution_keys.specs.Junit as junit_key
 use Rattle.nextest_config_resolution_settings.specs.Nearest.{SetsNone}
@@ -13,6 +12,8 @@ use Rattle.nextest_config_resolution_settings.specs.Profile.{IsSetTo, OfProfiles
 use Rattle.nextest_config_resolution_settings.specs.declared.default_filter.CompiledDefaultFilter.{CompiledDefaultFilter}
 use Rattle.nextest_config_resolution_keys.specs.File.{inherits_in}
 use Rattle.nextest_config_resolution_keys.specs.declared.profile_config.ProfileConfig.{ProfileConfig}
+use Rattle.nextest_config_resolution_keys.specs.Own as own_key
+use Rattle.nextest_config_resolution_keys.specs.Report as report_key
 
 -- its name, the directory of its files, the profiles that it is read from, its default filter, its
 -- rules in the order in which they are asked, and all groups of tests and scripts
@@ -45,14 +46,14 @@ inherits_of (profile ∷ parents) = inherits_in profile
 
 -- a report in JUnit's form, by what a chain sets
 pub record IsJunitOf (chain : List ProfileConfig) (config : JunitConfig) : Type 0 where
-  pub file : IsSetTo (in_own key.junit_path_of) chain config.path.now
-  pub title : OfProfiles (in_own key.junit_report_name_of) chain junit_key.junit_report_name_fallback config.report_name.now
-  pub stores_success : OfProfiles (in_report key.junit_store_success_output_of) chain junit_key.junit_store_success_output_fallback config.store_success_output
-  pub stores_failure : OfProfiles (in_report key.junit_store_failure_output_of) chain junit_key.junit_store_failure_output_fallback config.store_failure_output
-  pub skipped : OfProfiles (in_report key.junit_report_skipped_of) chain junit_key.junit_report_skipped_fallback config.report_skipped
-  pub flaky : OfProfiles (in_report key.junit_flaky_fail_status_of) chain junit_key.junit_flaky_fail_status_fallback config.flaky_fail_status
+  pub file : IsSetTo (in_own own_key.junit_path_of) chain config.path.now
+  pub title : OfProfiles (in_own own_key.junit_report_name_of) chain junit_key.junit_report_name_fallback config.report_name.now
+  pub stores_success : OfProfiles (in_report report_key.junit_store_success_output_of) chain junit_key.junit_store_success_output_fallback config.store_success_output
+  pub stores_failure : OfProfiles (in_report report_key.junit_store_failure_output_of) chain junit_key.junit_store_failure_output_fallback config.store_failure_output
+  pub skipped : OfProfiles (in_report report_key.junit_report_skipped_of) chain junit_key.junit_report_skipped_fallback config.report_skipped
+  pub flaky : OfProfiles (in_report report_key.junit_flaky_fail_status_of) chain junit_key.junit_flaky_fail_status_fallback config.flaky_fail_status
 
 -- there is a report exactly if a profile of the chain sets its path
 abbrev pub MayHaveJunit : List ProfileConfig → Option JunitConfig → Type 0
-MayHaveJunit chain None = SetsNone (in_own key.junit_path_of) chain
+MayHaveJunit chain None = SetsNone (in_own own_key.junit_path_of) chain
 MayHaveJunit chain (Some config) = IsJunitOf chain config

@@ -15,7 +15,6 @@ use Rattle.nextest_config_resolution_settings.specs.declared.test_settings.TestS
 use Rattle.nextest_filtering_filters.specs.Query.{Test}
 use Rattle.nextest_filtering_ast.specs.declared.leaf.BuildPlatform.{BuildPlatform}
 use Rattle.nextest_filtering_ast.specs.declared.leaf.BuildPlatform.TheVariants as built
-use Rattle.nextest_config_resolution_overrides.specs.RuleKeys.{test_group_of}
 
 -- whether a rule holds for what is built for a platform
 abbrev pub holds_for : {P F S : Type 0} → BuildPlatform → RuleOn P F S → Bool
@@ -54,7 +53,7 @@ pub record AreSettingsFor {F S T : Type 0} (OnTest : F → F → Test → Bool �
 
 -- the group that a rule puts tests into
 abbrev pub group_set : {F S : Type 0} → OverrideOn F S → Option TestGroup
-group_set it = (test_group_of it.rule.placed.config.rule)
+group_set it = it.rule.placed.config.rule.test_group
 
 -- the group of the first of some rules that holds and sets one, or, where none does, the global one
 abbrev pub IsGroupBy : {F S : Type 0} → (OverrideOn F S → Type 0) → List (OverrideOn F S) → TestGroup → Type 0

@@ -1,5 +1,5 @@
 -- What the laws say.
-use Rattle.std.specs.Prelude.{◌≡◌, ◌⊎◌, ℕ, List, Some, Ok, Err, All, Contains}
+use Rattle.std.specs.Prelude.{◌≡◌, ◌⊎◌, ℕ, true, List, Option, Some, Ok, Err, All, Contains}
 use Rattle.std.specs.List.{AllByRecursion}
 use Rattle.nextest_config_resolution_inheritance.specs.Inheritance.{Name}
 use Rattle.nextest_config_resolution_load.specs.Load.{IsFilterBy, IsReadBy, IsReadRule, IsSpecBy}
@@ -10,14 +10,16 @@ use Rattle.nextest_config_resolution_load.specs.declared.load_error.LoadError.Th
 use Rattle.nextest_config_resolution_load.specs.declared.load_fault.LoadFault.{LoadFault}
 use Rattle.nextest_config_resolution_sources.specs.declared.source.ConfigSource.{ConfigSource}
 use Rattle.nextest_config_resolution_keys.specs.File.{Named}
+use Rattle.nextest_config_resolution_keys.specs.Keys.{Key}
 use Rattle.nextest_config_resolution_keys.specs.declared.profile_config.ProfileConfig.{ProfileConfig}
-use Rattle.nextest_config_resolution_profiles.specs.BuiltInLaws.{SetsEach}
+use Rattle.nextest_config_resolution_profiles.specs.BuiltIn.{default_members}
+use Rattle.nextest_config_resolution_profiles.specs.BuiltInLaws.{has_at}
 use Rattle.nextest_config_resolution_profiles.specs.Config.{IsChainOf, IsConfig, IsDefaultFilterOf, IsEarly, names_of, profiles_of, values_of}
 use Rattle.nextest_config_resolution_profiles.specs.Early.{Early}
 use Rattle.nextest_config_resolution_profiles.specs.Whole.{Whole}
+use Rattle.nextest_config_resolution_settings.specs.Nearest.{SetsNone}
 use Rattle.nextest_config_resolution_settings.specs.declared.default_filter.CompiledDefaultFilter.{CompiledDefaultFilter}
 use Rattle.nextest_config_elements_versions.specs.declared.feature.FeatureSet.{FeatureSet}
-use Rattle.nextest_config_resolution_overrides.specs.RuleKeys.{test_group_of}
 
 -- the chain of a profile has one list of values
 abbrev pub OneProfile : Type 0
@@ -44,14 +46,15 @@ abbrev pub DefaultIsRead : {F S : Type 0} → IsFilterBy F → IsSpecBy S → (L
 DefaultIsRead {F} {S} Is IsSpec IsTooDeep = (features : FeatureSet) (root : List ℕ) (sources : List ConfigSource) (config : Whole F S) (names : List Name) (chain : List ProfileConfig) (it : CompiledDefaultFilter F)
     → IsConfig Is IsSpec IsTooDeep features root sources (Ok config) → (of : IsDefaultFilterOf config.loaded.profiles config.loaded.default_filters names chain it) → Is purpose.Default of.text it.filter.now
 
--- a configuration sets the directory of its store, and each of its chains sets each setting but the
--- path of JUnit's report, whatever files say
-pub record SetsAll {F S : Type 0} (config : Whole F S) : Type 0 where
-  pub store : (dir : List ℕ) × (config.loaded.store_dir ≡ Some dir)
-  pub each : (name : Name) (chain : List ProfileConfig) → IsChainOf (profiles_of config) name chain → SetsEach chain
+-- a configuration sets the directory of its store
+abbrev pub SetsStoreDir : {F S : Type 0} → IsFilterBy F → IsSpecBy S → (List ℕ → Type 0) → Type 0
+SetsStoreDir {F} {S} Is IsSpec IsTooDeep = (features : FeatureSet) (root : List ℕ) (sources : List ConfigSource) (config : Whole F S) → IsConfig Is IsSpec IsTooDeep features root sources (Ok config)
+    → (dir : List ℕ) × (config.loaded.store_dir ≡ Some dir)
 
-abbrev pub NeverFallsBack : {F S : Type 0} → IsFilterBy F → IsSpecBy S → (List ℕ → Type 0) → Type 0
-NeverFallsBack {F} {S} Is IsSpec IsTooDeep = (features : FeatureSet) (root : List ℕ) (sources : List ConfigSource) (config : Whole F S) → IsConfig Is IsSpec IsTooDeep features root sources (Ok config) → SetsAll config
+-- each chain of a configuration sets a key that the built-in `default` has, whatever files say
+abbrev pub NeverFallsBack : {F S V : Type 0} → IsFilterBy F → IsSpecBy S → (List ℕ → Type 0) → Key V → (ProfileConfig → Option V) → Type 0
+NeverFallsBack {F} {S} Is IsSpec IsTooDeep key set_by = (features : FeatureSet) (root : List ℕ) (sources : List ConfigSource) (config : Whole F S) → IsConfig Is IsSpec IsTooDeep features root sources (Ok config)
+    → has_at key.path default_members ≡ true → (name : Name) (chain : List ProfileConfig) → IsChainOf (profiles_of config) name chain → ¬ SetsNone set_by chain
 
 -- each rule of a configuration has the filters and specs of its texts
 abbrev pub RulesAreRead : {F S : Type 0} → IsFilterBy F → IsSpecBy S → (List ℕ → Type 0) → Type 0
@@ -66,7 +69,7 @@ ScriptRulesAreRead {F} {S} Is IsSpec IsTooDeep = (features : FeatureSet) (root :
 -- its overrides
 pub record AreDefined {F S : Type 0} (it : Early F S) : Type 0 where
   pub scripts : AllByRecursion (λ rule. HasScripts it.scripts rule.placed.config) it.script_rules
-  pub groups : AllByRecursion (λ rule. HasGroup it.groups (test_group_of rule.placed.config.rule)) it.rules
+  pub groups : AllByRecursion (λ rule. HasGroup it.groups rule.placed.config.rule.test_group) it.rules
 
 abbrev pub NothingIsUndefined : {F S : Type 0} → IsFilterBy F → IsSpecBy S → (List ℕ → Type 0) → Type 0
 NothingIsUndefined {F} {S} Is IsSpec IsTooDeep = (features : FeatureSet) (root : List ℕ) (sources : List ConfigSource) (config : Whole F S) (name : Name) (it : Early F S)

@@ -1,72 +1,24 @@
 -- What the built-in configuration is read as.
-use Rattle.std.specs.Prelude.{[], ◌∷◌, codes, None, Some}
+use Rattle.std.specs.Prelude.{[], ◌∷◌, codes, Some}
 use Rattle.nextest_config_resolution_load.specs.Checks.{MergedConfig}
 use Rattle.nextest_config_resolution_load.specs.declared.file_config.FileConfig.{FileConfig}
-use Rattle.nextest_config_resolution_keys.specs.Bench as bench_key
-use Rattle.nextest_config_resolution_keys.specs.Junit as junit_key
-use Rattle.nextest_config_resolution_keys.specs.Output as output_key
-use Rattle.nextest_config_resolution_keys.specs.Own as own_key
-use Rattle.nextest_config_resolution_keys.specs.Run as run_key
-use Rattle.nextest_config_resolution_keys.specs.Test as test_key
+use Rattle.nextest_config_resolution_keys.specs.Command.{command_fallbacks, command_unset}
+use Rattle.nextest_config_resolution_keys.specs.Own.{own_fallbacks, own_unset}
+use Rattle.nextest_config_resolution_keys.specs.Report.{report_fallbacks, report_unset}
+use Rattle.nextest_config_resolution_keys.specs.Test.{test_fallbacks, test_unset}
+use Rattle.nextest_config_resolution_keys.specs.declared.command.CommandValues.{CommandValues}
 use Rattle.nextest_config_resolution_keys.specs.declared.profile_config.ProfileConfig.{ProfileConfig}
 
--- the profile `default` sets each setting that has a fallback, and to that: by list, and in the
--- order of its keys
+-- the profile `default` sets each setting that has a fallback, and to that, and runs all tests
+abbrev pub default_command : CommandValues
+default_command = record { default_filter = Some (codes "all()"); run_extra_args = command_fallbacks.run_extra_args }
+
 abbrev pub default_profile : ProfileConfig
-default_profile = record {
-  own = (
-    Some bench_key.bench_global_timeout_fallback,
-    (
-      Some run_key.fail_fast_fallback,
-      (
-        Some output_key.final_status_level_fallback,
-        (
-          Some run_key.global_timeout_fallback,
-          (
-            None,
-            (None, (Some junit_key.junit_report_name_fallback, (Some output_key.status_level_fallback, (Some run_key.test_threads_fallback, tt)))),
-          ),
-        ),
-      ),
-    ),
-  );
-  command = (Some (codes "all()"), (Some own_key.run_extra_args_fallback, tt));
-  test = (
-    Some bench_key.bench_slow_timeout_fallback,
-    (
-      Some test_key.fail_weight_fallback,
-      (
-        Some test_key.flaky_result_fallback,
-        (
-          Some test_key.leak_timeout_fallback,
-          (Some test_key.retries_fallback, (Some test_key.slow_timeout_fallback, (Some test_key.threads_required_fallback, tt))),
-        ),
-      ),
-    ),
-  );
-  report = (
-    Some output_key.failure_output_fallback,
-    (
-      Some junit_key.junit_flaky_fail_status_fallback,
-      (
-        Some junit_key.junit_report_skipped_fallback,
-        (
-          Some junit_key.junit_store_failure_output_fallback,
-          (Some junit_key.junit_store_success_output_fallback, (Some output_key.success_output_fallback, tt)),
-        ),
-      ),
-    ),
-  );
-}
+default_profile = record { own = own_fallbacks; command = default_command; test = test_fallbacks; report = report_fallbacks }
 
 -- the profile `default-miri` sets nothing
 abbrev pub miri_profile : ProfileConfig
-miri_profile = record {
-  own = (None, (None, (None, (None, (None, (None, (None, (None, (None, tt)))))))));
-  command = (None, (None, tt));
-  test = (None, (None, (None, (None, (None, (None, (None, tt)))))));
-  report = (None, (None, (None, (None, (None, (None, tt))))));
-}
+miri_profile = record { own = own_unset; command = command_unset; test = test_unset; report = report_unset }
 
 -- both, and where files are stored
 abbrev pub built_in_config : MergedConfig

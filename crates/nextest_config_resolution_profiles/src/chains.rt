@@ -8,9 +8,9 @@ ghost use Rattle.nextest_config_resolution_profiles.specs.Chains.{AreAt, IsChain
 ghost use Rattle.nextest_config_resolution_profiles.specs.Config.{IsDefaultFilterOf};
 ghost use Rattle.nextest_config_resolution_profiles.specs.Whole.{AreFiltered};
 ghost use Rattle.nextest_config_resolution_profiles.specs.Values.{SetsFilter};
-ghost use Rattle.nextest_config_resolution_keys.specs.Lists as key;
 ghost use Rattle.nextest_config_resolution_settings.specs.Layers.{in_command};
 ghost use Rattle.nextest_config_resolution_settings.specs.Nearest.{SetsNone, lent_layers};
+ghost use Rattle.nextest_config_resolution_keys.specs.Command as command_key;
 
 use crate::chain_rule::ChainRule;
 use crate::rules::rules_at;
@@ -116,7 +116,7 @@ fn default_filter_of<'c, F>(
     requires within { All (λ place. place < length profiles.now) places.now }
     requires at { AreAt (map named_of profiles.now) places.now (lent_layers values.now) }
     requires filtered { AreFiltered profiles.now filters.now }
-    requires set { ¬ SetsNone (in_command key.default_filter_of) (lent_layers values.now) }
+    requires set { ¬ SetsNone (in_command command_key.default_filter_of) (lent_layers values.now) }
     ensures { IsDefaultFilterOf profiles.now filters.now (names_at
         (parents_of (map named_of profiles.now)) places.now) (lent_layers values.now) result }
 {

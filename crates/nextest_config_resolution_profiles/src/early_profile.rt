@@ -4,9 +4,9 @@ ghost use Rattle.std.specs.Bool.{OnFalse, OnTrue};
 ghost use Rattle.nextest_config_resolution_profiles.specs.Config.{SetsJunit};
 ghost use Rattle.nextest_config_resolution_profiles.specs.Evaluatable.{IsPutOn};
 ghost use Rattle.nextest_config_resolution_profiles.specs.Platforms.{built_for, built_on};
-ghost use Rattle.nextest_config_resolution_keys.specs.Lists as key;
 ghost use Rattle.nextest_config_resolution_settings.specs.Layers.{in_own};
 ghost use Rattle.nextest_config_resolution_settings.specs.Nearest.{SetsNone};
+ghost use Rattle.nextest_config_resolution_keys.specs.Own as own_key;
 
 use crate::chain_rule::ChainRule;
 use crate::evaluatable_profile::EvaluatableProfile;
@@ -123,7 +123,7 @@ impl<'c, F: Filters, S: Specs> EarlyProfile<'c, F, S> {
     /// `junit.path`.
     pub fn has_junit(&self) -> bool
         ensures yes { OnTrue result (SetsJunit self.now.chain) }
-        ensures no { OnFalse result (SetsNone (in_own key.junit_path_of) self.now.chain) }
+        ensures no { OnFalse result (SetsNone (in_own own_key.junit_path_of) self.now.chain) }
     {
         match nearest::<JunitPathKey, ProfileConfig>(self.chain.as_slice()) {
             Some(_) => true,

@@ -4,7 +4,6 @@ ghost use Rattle.std.specs.Option.{option_copied};
 ghost use Rattle.nextest_config_resolution_profiles.specs.Evaluatable.{MayHaveJunit, inherits_of};
 ghost use Rattle.nextest_config_resolution_profiles.specs.Finding.{FindsHeld};
 ghost use Rattle.nextest_config_resolution_profiles.specs.Held.{AreSettingsFor, Holds, IsGroupFor, layers_of};
-ghost use Rattle.nextest_config_resolution_keys.specs.Lists as key;
 ghost use Rattle.nextest_config_resolution_settings.specs.Layers.{in_command, in_own, in_report, in_test};
 ghost use Rattle.nextest_config_resolution_keys.specs.Modes.{global_timeout_by, global_timeout_or, slow_timeout_by, slow_timeout_or};
 ghost use Rattle.nextest_config_resolution_keys.specs.Junit as junit_key;
@@ -12,6 +11,8 @@ ghost use Rattle.nextest_config_resolution_keys.specs.Output as output_key;
 ghost use Rattle.nextest_config_resolution_keys.specs.Own as own_key;
 ghost use Rattle.nextest_config_resolution_keys.specs.Run as run_key;
 ghost use Rattle.nextest_config_resolution_keys.specs.Test as test_key;
+ghost use Rattle.nextest_config_resolution_keys.specs.Command as command_key;
+ghost use Rattle.nextest_config_resolution_keys.specs.Report as report_key;
 ghost use Rattle.nextest_config_resolution_settings.specs.Nearest.{lent_layers};
 ghost use Rattle.nextest_config_resolution_settings.specs.Profile.{OfProfiles};
 ghost use Rattle.nextest_config_resolution_settings.specs.TestSettings.{AreSettings, group_of};
@@ -162,78 +163,88 @@ impl<'c, F: Filters, S: Specs> EvaluatableProfile<'c, F, S> {
 
     /// `retries`: how a failing test is tried again.
     pub fn retries(&self) -> RetryPolicy
-        ensures { OfProfiles (in_test key.retries_of) self.now.chain test_key.retries_fallback result }
+        ensures { OfProfiles (in_test test_key.retries_of) self.now.chain
+            test_key.retries_fallback result }
     {
         self.setting::<RetriesKey>()
     }
 
     /// `flaky-result`: what becomes of a test that passes on a later attempt than its first.
     pub fn flaky_result(&self) -> FlakyResult
-        ensures { OfProfiles (in_test key.flaky_result_of) self.now.chain test_key.flaky_result_fallback result }
+        ensures { OfProfiles (in_test test_key.flaky_result_of) self.now.chain
+            test_key.flaky_result_fallback result }
     {
         self.setting::<FlakyResultKey>()
     }
 
     /// `fail-weight`: how much a test weighs that fails.
     pub fn fail_weight(&self) -> FailWeight
-        ensures { OfProfiles (in_test key.fail_weight_of) self.now.chain test_key.fail_weight_fallback result }
+        ensures { OfProfiles (in_test test_key.fail_weight_of) self.now.chain
+            test_key.fail_weight_fallback result }
     {
         self.setting::<FailWeightKey>()
     }
 
     /// `test-threads`: how many tests run at a time.
     pub fn test_threads(&self) -> TestThreads
-        ensures { OfProfiles (in_own key.test_threads_of) self.now.chain run_key.test_threads_fallback result }
+        ensures { OfProfiles (in_own own_key.test_threads_of) self.now.chain
+            run_key.test_threads_fallback result }
     {
         self.setting::<TestThreadsKey>()
     }
 
     /// `threads-required`: how many threads a test takes.
     pub fn threads_required(&self) -> ThreadsRequired
-        ensures { OfProfiles (in_test key.threads_required_of) self.now.chain test_key.threads_required_fallback result }
+        ensures { OfProfiles (in_test test_key.threads_required_of) self.now.chain
+            test_key.threads_required_fallback result }
     {
         self.setting::<ThreadsRequiredKey>()
     }
 
     /// `leak-timeout`: how long handles may stay open behind a test.
     pub fn leak_timeout(&self) -> LeakTimeout
-        ensures { OfProfiles (in_test key.leak_timeout_of) self.now.chain test_key.leak_timeout_fallback result }
+        ensures { OfProfiles (in_test test_key.leak_timeout_of) self.now.chain
+            test_key.leak_timeout_fallback result }
     {
         self.setting::<LeakTimeoutKey>()
     }
 
     /// `status-level`: which statuses are shown while tests run.
     pub fn status_level(&self) -> StatusLevel
-        ensures { OfProfiles (in_own key.status_level_of) self.now.chain output_key.status_level_fallback result }
+        ensures { OfProfiles (in_own own_key.status_level_of) self.now.chain
+            output_key.status_level_fallback result }
     {
         self.setting::<StatusLevelKey>()
     }
 
     /// `final-status-level`: which statuses are shown at the end of a run.
     pub fn final_status_level(&self) -> FinalStatusLevel
-        ensures { OfProfiles (in_own key.final_status_level_of) self.now.chain output_key.final_status_level_fallback
-            result }
+        ensures { OfProfiles (in_own own_key.final_status_level_of) self.now.chain
+            output_key.final_status_level_fallback result }
     {
         self.setting::<FinalStatusLevelKey>()
     }
 
     /// `failure-output`: when the output of a test is shown that fails.
     pub fn failure_output(&self) -> TestOutputDisplay
-        ensures { OfProfiles (in_report key.failure_output_of) self.now.chain output_key.failure_output_fallback result }
+        ensures { OfProfiles (in_report report_key.failure_output_of) self.now.chain
+            output_key.failure_output_fallback result }
     {
         self.setting::<FailureOutputKey>()
     }
 
     /// `success-output`: when the output of a test is shown that passes.
     pub fn success_output(&self) -> TestOutputDisplay
-        ensures { OfProfiles (in_report key.success_output_of) self.now.chain output_key.success_output_fallback result }
+        ensures { OfProfiles (in_report report_key.success_output_of) self.now.chain
+            output_key.success_output_fallback result }
     {
         self.setting::<SuccessOutputKey>()
     }
 
     /// `fail-fast`: when failing tests stop a run.
     pub fn max_fail(&self) -> MaxFail
-        ensures { OfProfiles (in_own key.fail_fast_of) self.now.chain run_key.fail_fast_fallback result }
+        ensures { OfProfiles (in_own own_key.fail_fast_of) self.now.chain
+            run_key.fail_fast_fallback result }
     {
         self.setting::<FailFastKey>()
     }
@@ -264,8 +275,8 @@ impl<'c, F: Filters, S: Specs> EvaluatableProfile<'c, F, S> {
 
     /// `run-extra-args`: the arguments that tests are run with besides.
     pub fn run_extra_args(&self) -> &'c [Text]
-        ensures { OfProfiles (in_command key.run_extra_args_of) self.now.chain
-            own_key.run_extra_args_fallback result.now }
+        ensures { OfProfiles (in_command command_key.run_extra_args_of) self.now.chain
+            command_key.run_extra_args_fallback result.now }
     {
         match self.value_of::<RunExtraArgsKey>() {
             Some(arguments) => arguments.as_slice(),
@@ -465,7 +476,7 @@ impl<'c, F: Filters, S: Specs> EvaluatableProfile<'c, F, S> {
 
     // `junit.report-name`: the name that stands in the report.
     fn junit_report_name(&self) -> &'c str
-        ensures { OfProfiles (in_own key.junit_report_name_of) self.now.chain
+        ensures { OfProfiles (in_own own_key.junit_report_name_of) self.now.chain
             junit_key.junit_report_name_fallback result.now }
     {
         match self.value_of::<JunitReportNameKey>() {
@@ -476,7 +487,7 @@ impl<'c, F: Filters, S: Specs> EvaluatableProfile<'c, F, S> {
 
     // `junit.store-success-output`: whether the report has the outputs of tests that pass.
     fn junit_store_success_output(&self) -> bool
-        ensures { OfProfiles (in_report key.junit_store_success_output_of) self.now.chain
+        ensures { OfProfiles (in_report report_key.junit_store_success_output_of) self.now.chain
             junit_key.junit_store_success_output_fallback result }
     {
         self.setting::<JunitStoreSuccessOutputKey>()
@@ -484,7 +495,7 @@ impl<'c, F: Filters, S: Specs> EvaluatableProfile<'c, F, S> {
 
     // `junit.store-failure-output`: whether it has the outputs of tests that fail.
     fn junit_store_failure_output(&self) -> bool
-        ensures { OfProfiles (in_report key.junit_store_failure_output_of) self.now.chain
+        ensures { OfProfiles (in_report report_key.junit_store_failure_output_of) self.now.chain
             junit_key.junit_store_failure_output_fallback result }
     {
         self.setting::<JunitStoreFailureOutputKey>()
@@ -492,15 +503,15 @@ impl<'c, F: Filters, S: Specs> EvaluatableProfile<'c, F, S> {
 
     // `junit.report-skipped`: which skipped tests are reported.
     fn junit_report_skipped(&self) -> ReportSkipPolicy
-        ensures { OfProfiles (in_report key.junit_report_skipped_of) self.now.chain junit_key.junit_report_skipped_fallback
-            result }
+        ensures { OfProfiles (in_report report_key.junit_report_skipped_of) self.now.chain
+            junit_key.junit_report_skipped_fallback result }
     {
         self.setting::<JunitReportSkippedKey>()
     }
 
     // `junit.flaky-fail-status`: how a test is reported that fails since it is flaky.
     fn junit_flaky_fail_status(&self) -> JunitFlakyFailStatus
-        ensures { OfProfiles (in_report key.junit_flaky_fail_status_of) self.now.chain
+        ensures { OfProfiles (in_report report_key.junit_flaky_fail_status_of) self.now.chain
             junit_key.junit_flaky_fail_status_fallback result }
     {
         self.setting::<JunitFlakyFailStatusKey>()

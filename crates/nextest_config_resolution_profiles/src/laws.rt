@@ -1,16 +1,21 @@
 //! What holds of whole configurations. Each law is the contract of a function that does nothing.
+ghost use Rattle.std.specs.Prelude.{[], ◌∷◌};
+ghost use Rattle.nextest_config_resolution_keys.specs.Junit as junit_key;
+ghost use Rattle.nextest_config_resolution_keys.specs.Own as own_key;
 ghost use Rattle.nextest_config_resolution_profiles.specs.Agreeing.{ProfileIsolation};
 ghost use Rattle.nextest_config_resolution_profiles.specs.AnswerAlike.{IsolatesProfiles};
-ghost use Rattle.nextest_config_resolution_profiles.specs.BuiltInLaws.{Accepted, NoFallback, ReadAs, WrittenAs};
+ghost use Rattle.nextest_config_resolution_profiles.specs.BuiltInLaws.{Accepted, HasAllBut, NoFallback, ReadAs, WrittenAs};
 ghost use Rattle.nextest_config_resolution_profiles.specs.Kept.{KeptProfile};
 ghost use Rattle.nextest_config_resolution_profiles.specs.Languages.{IsFilterIn};
-ghost use Rattle.nextest_config_resolution_profiles.specs.Laws.{DefaultIsRead, NeverFallsBack, NothingIsUndefined, OneProfile, RulesAreRead, SameChain, ScriptRulesAreRead, SomeChain, SomeConfig};
+ghost use Rattle.nextest_config_resolution_profiles.specs.Laws.{DefaultIsRead, NeverFallsBack, NothingIsUndefined, OneProfile, RulesAreRead, SameChain, ScriptRulesAreRead, SetsStoreDir, SomeChain, SomeConfig};
 ghost use Rattle.nextest_config_resolution_profiles.specs.Memberships.{PrecomputedMembers};
 ghost use Rattle.nextest_config_resolution_profiles.specs.RuleLaws.{EarlyDefault, EnabledIsDefined, GroupOfSettings, MoreEnableNoFewer, NoRules, NumberedRows, OneHeld, OneScriptsHeld, SameSettingsFor, SameSourcesFor, SomeGroupFor, SomeSettingsFor};
 
 use crate::default_config::DEFAULT_CONFIG;
 use nextest_config_resolution_filters::{Filters, Specs};
-use nextest_config_resolution_settings::TrackSource;
+use nextest_config_resolution_keys::laws::reads_each;
+use nextest_config_resolution_keys::{HasValues, ListedKey, ProfileConfig};
+use nextest_config_resolution_settings::{Sets, TrackSource};
 
 /// A profile of what is built in is one of every configuration that is loaded over it.
 pub fn kept_profile<F: Filters, S: Specs>()
@@ -55,7 +60,8 @@ pub fn nothing_is_undefined<F: Filters, S: Specs>()
         (IsFilterIn F.is_parsed F.has_runtime_leaves cx) S.is_parsed F.is_too_deep }
 {}
 
-/// An enabled setup script is one that the configuration defines, whichever tests it is enabled for.
+/// An enabled setup script is one that the configuration defines, whichever tests it is enabled
+/// for.
 pub fn enabled_is_defined<F: Filters, S: Specs>()
     ensures { (cx : F.Cx) → EnabledIsDefined (IsFilterIn F.is_parsed F.has_runtime_leaves cx)
         S.is_parsed F.is_too_deep S.value_on F.on_test }
@@ -104,18 +110,37 @@ pub fn accepted()
     ensures { Accepted }
 {}
 
-/// A chain that ends with its `default` sets each setting that has a fallback, so that none is ever
-/// used.
-pub fn no_fallback()
-    ensures { NoFallback }
+/// Its `default` has all keys of a profile but `inherits` and the path of JUnit's report.
+pub fn has_all_but()
+    ensures { HasAllBut (own_key.inherits.path ∷ junit_key.junit_path.path ∷ []) }
 {}
 
-/// A configuration sets the directory of its store, and each of its chains sets each setting but
-/// the path of JUnit's report, so that no fallback is ever used.
-pub fn never_falls_back<F: Filters, S: Specs>()
-    ensures { (cx : F.Cx) → NeverFallsBack
+/// A chain that ends with its `default` sets each key that it has, so that no fallback is used.
+pub fn no_fallback<K: ListedKey>()
+where
+    ProfileConfig: HasValues<K::Values>,
+    ensures { NoFallback K.key ⟦<ProfileConfig as Sets<K>>⟧.value }
+{
+    read_as();
+    reads_each::<K, ProfileConfig>();
+}
+
+/// A configuration sets the directory of its store.
+pub fn sets_store_dir<F: Filters, S: Specs>()
+    ensures { (cx : F.Cx) → SetsStoreDir
         (IsFilterIn F.is_parsed F.has_runtime_leaves cx) S.is_parsed F.is_too_deep }
 {}
+
+/// Each chain of a configuration sets each key that the built-in `default` has, whatever files say,
+/// so that no fallback is ever used.
+pub fn never_falls_back<F: Filters, S: Specs, K: ListedKey>()
+where
+    ProfileConfig: HasValues<K::Values>,
+    ensures { (cx : F.Cx) → NeverFallsBack (IsFilterIn F.is_parsed F.has_runtime_leaves cx)
+        S.is_parsed F.is_too_deep K.key ⟦<ProfileConfig as Sets<K>>⟧.value }
+{
+    reads_each::<K, ProfileConfig>();
+}
 
 /// Where no rule holds for what is built for the target and sets a default filter, it is that of
 /// the profiles.

@@ -19,10 +19,10 @@ use Rattle.nextest_config_resolution_commands.specs.Accepted.{IsCommand, MustBe}
 use Rattle.nextest_config_elements_deserialize.specs.Below.{defaulted_by, required_by}
 use Rattle.nextest_config_resolution_commands.specs.Commands.{command_in}
 use Rattle.nextest_config_resolution_commands.specs.declared.script_command.ScriptCommand.{ScriptCommand}
-use Rattle.nextest_config_resolution_keys.proofs.Made.{read_of, refused_made}
+use Rattle.nextest_config_resolution_keys.proofs.Made.{refused_made}
 use Rattle.nextest_config_resolution_keys.specs.Items.{items_in}
 use Rattle.nextest_config_resolution_keys.specs.Keys.{value_of}
-use Rattle.nextest_config_resolution_keys.specs.Listed.{joined_parts}
+use Rattle.nextest_config_resolution_keys.specs.Listed.{joined_parts, read_of}
 use Rattle.nextest_config_resolution_keys.specs.Rows.{made_of, refusal, refusal_of}
 use Rattle.nextest_config_resolution_scripts.specs.Accepted.{AreNames, IsScriptJunit, IsSetupScript, IsSlowScript, IsWrapperScript, NamesScripts, slow_test}
 use Rattle.nextest_config_resolution_scripts.specs.Laws.{AcceptedNames, AcceptedScriptRule, AcceptedSetupScript, AcceptedWrapperScript, RefusedScriptRule}

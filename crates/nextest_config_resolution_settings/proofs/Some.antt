@@ -10,14 +10,16 @@ use Rattle.nextest_config_resolution_scripts.specs.declared.script_config.NamedS
 use Rattle.nextest_config_resolution_scripts.specs.declared.script_rule.PlacedScriptRule.{PlacedScriptRule}
 use Rattle.nextest_config_resolution_scripts.specs.declared.wrapper_script.WrapperScriptConfig.{WrapperScriptConfig}
 use Rattle.nextest_config_resolution_keys.specs.Junit as junit_key
-use Rattle.nextest_config_resolution_keys.specs.Lists as key
-use Rattle.nextest_config_resolution_keys.specs.Lists.{CommandValues, ReportValues, TestValues}
+use Rattle.nextest_config_resolution_keys.specs.declared.command.CommandValues.{CommandValues}
+use Rattle.nextest_config_resolution_keys.specs.declared.report.ReportValues.{ReportValues}
+use Rattle.nextest_config_resolution_keys.specs.declared.test.TestValues.{TestValues}
 use Rattle.nextest_config_resolution_keys.specs.Modes.{slow_timeout_by, slow_timeout_or}
 use Rattle.nextest_config_resolution_keys.specs.Output as output_key
-use Rattle.nextest_config_resolution_keys.specs.Own as own_key
 use Rattle.nextest_config_resolution_keys.specs.Test as test_key
+use Rattle.nextest_config_resolution_keys.specs.Command as command_key
+use Rattle.nextest_config_resolution_keys.specs.Report as report_key
 use Rattle.nextest_config_resolution_overrides.specs.RuleKeys as rule
-use Rattle.nextest_config_resolution_overrides.specs.RuleKeys.{RuleValues}
+use Rattle.nextest_config_resolution_overrides.specs.declared.rule.RuleValues.{RuleValues}
 use Rattle.nextest_config_resolution_overrides.specs.Schedule as schedule_key
 use Rattle.nextest_config_resolution_settings.specs.Layers.{Layers, in_command, in_report, in_rule, in_test}
 use Rattle.nextest_config_resolution_settings.specs.Laws.{SomeSettings}
@@ -137,22 +139,22 @@ some_of_report Tells keeps layers value_of fallback =
 pub some_settings : {S : Type 0} (Tells : S → Source → Type 0) → KeepsSome Tells → SomeSettings Tells
 some_settings Tells keeps mode layers =
     let priority = some_of_rules Tells keeps layers rule.priority_of schedule_key.priority_fallback in
-    let threads_required = some_of_test Tells keeps layers key.threads_required_of test_key.threads_required_fallback in
+    let threads_required = some_of_test Tells keeps layers test_key.threads_required_of test_key.threads_required_fallback in
     let run_wrapper = some_wrapper Tells keeps layers.wrappers run_wrapper layers.scripts in
-    let run_extra_args = some_of_command Tells keeps layers key.run_extra_args_of own_key.run_extra_args_fallback in
-    let retries = some_of_test Tells keeps layers key.retries_of test_key.retries_fallback in
-    let flaky_result = some_of_test Tells keeps layers key.flaky_result_of test_key.flaky_result_fallback in
-    let fail_weight = some_of_test Tells keeps layers key.fail_weight_of test_key.fail_weight_fallback in
+    let run_extra_args = some_of_command Tells keeps layers command_key.run_extra_args_of command_key.run_extra_args_fallback in
+    let retries = some_of_test Tells keeps layers test_key.retries_of test_key.retries_fallback in
+    let flaky_result = some_of_test Tells keeps layers test_key.flaky_result_of test_key.flaky_result_fallback in
+    let fail_weight = some_of_test Tells keeps layers test_key.fail_weight_of test_key.fail_weight_fallback in
     let slow_timeout = some_of_test Tells keeps layers (slow_timeout_by mode) (slow_timeout_or mode) in
-    let leak_timeout = some_of_test Tells keeps layers key.leak_timeout_of test_key.leak_timeout_fallback in
+    let leak_timeout = some_of_test Tells keeps layers test_key.leak_timeout_of test_key.leak_timeout_fallback in
     let test_group = some_of_rules Tells keeps layers rule.test_group_of schedule_key.test_group_fallback in
     let lent = some_lent test_group.0.0 in
-    let success_output = some_of_report Tells keeps layers key.success_output_of output_key.success_output_fallback in
-    let failure_output = some_of_report Tells keeps layers key.failure_output_of output_key.failure_output_fallback in
-    let junit_store_success_output = some_of_report Tells keeps layers key.junit_store_success_output_of junit_key.junit_store_success_output_fallback in
-    let junit_store_failure_output = some_of_report Tells keeps layers key.junit_store_failure_output_of junit_key.junit_store_failure_output_fallback in
-    let junit_report_skipped = some_of_report Tells keeps layers key.junit_report_skipped_of junit_key.junit_report_skipped_fallback in
-    let junit_flaky_fail_status = some_of_report Tells keeps layers key.junit_flaky_fail_status_of junit_key.junit_flaky_fail_status_fallback in (
+    let success_output = some_of_report Tells keeps layers report_key.success_output_of output_key.success_output_fallback in
+    let failure_output = some_of_report Tells keeps layers report_key.failure_output_of output_key.failure_output_fallback in
+    let junit_store_success_output = some_of_report Tells keeps layers report_key.junit_store_success_output_of junit_key.junit_store_success_output_fallback in
+    let junit_store_failure_output = some_of_report Tells keeps layers report_key.junit_store_failure_output_of junit_key.junit_store_failure_output_fallback in
+    let junit_report_skipped = some_of_report Tells keeps layers report_key.junit_report_skipped_of junit_key.junit_report_skipped_fallback in
+    let junit_flaky_fail_status = some_of_report Tells keeps layers report_key.junit_flaky_fail_status_of junit_key.junit_flaky_fail_status_fallback in (
       record {
         priority = priority.0;
         threads_required = threads_required.0;

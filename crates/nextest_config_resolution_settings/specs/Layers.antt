@@ -1,8 +1,11 @@
 -- What sets the settings of a test.
 use Rattle.std.specs.Prelude.{List, Option}
-use Rattle.nextest_config_resolution_keys.specs.Lists.{CommandValues, OwnValues, ReportValues, TestValues}
+use Rattle.nextest_config_resolution_keys.specs.declared.command.CommandValues.{CommandValues}
+use Rattle.nextest_config_resolution_keys.specs.declared.own.OwnValues.{OwnValues}
+use Rattle.nextest_config_resolution_keys.specs.declared.report.ReportValues.{ReportValues}
+use Rattle.nextest_config_resolution_keys.specs.declared.test.TestValues.{TestValues}
 use Rattle.nextest_config_resolution_overrides.specs.declared.placed_override.PlacedOverride.{PlacedOverride}
-use Rattle.nextest_config_resolution_overrides.specs.RuleKeys.{RuleValues}
+use Rattle.nextest_config_resolution_overrides.specs.declared.rule.RuleValues.{RuleValues}
 use Rattle.nextest_config_resolution_scripts.specs.declared.script_config.NamedScript.{NamedScript}
 use Rattle.nextest_config_resolution_scripts.specs.declared.script_rule.PlacedScriptRule.{PlacedScriptRule}
 use Rattle.nextest_config_resolution_scripts.specs.declared.wrapper_script.WrapperScriptConfig.{WrapperScriptConfig}

@@ -5,11 +5,11 @@ use Rattle.nextest_config_elements_identifiers.specs.declared.test_group.TestGro
 use Rattle.nextest_config_elements_identifiers.specs.declared.test_group.TestGroup.TheVariants as group
 use Rattle.nextest_config_elements_choices.specs.declared.run_mode.NextestRunMode.{NextestRunMode}
 use Rattle.nextest_config_resolution_keys.specs.Junit as junit_key
-use Rattle.nextest_config_resolution_keys.specs.Lists as key
 use Rattle.nextest_config_resolution_keys.specs.Modes.{slow_timeout_by, slow_timeout_or}
 use Rattle.nextest_config_resolution_keys.specs.Output as output_key
-use Rattle.nextest_config_resolution_keys.specs.Own as own_key
 use Rattle.nextest_config_resolution_keys.specs.Test as test_key
+use Rattle.nextest_config_resolution_keys.specs.Command as command_key
+use Rattle.nextest_config_resolution_keys.specs.Report as report_key
 use Rattle.nextest_config_resolution_overrides.specs.RuleKeys as rule
 use Rattle.nextest_config_resolution_overrides.specs.Schedule as schedule_key
 use Rattle.nextest_config_resolution_settings.specs.Layers.{Layers}
@@ -32,29 +32,29 @@ group_of (group_ref.Custom it) = group.Custom it.now
 pub record AreSettings {S : Type 0} (Tells : S → Source → Type 0) (mode : NextestRunMode) (layers : Layers)
     (settings : TestSettings S) : Type 0 where
   pub priority : IsRuleSetting Tells layers rule.priority_of schedule_key.priority_fallback settings.priority
-  pub threads_required : IsTestSetting Tells layers key.threads_required_of test_key.threads_required_fallback settings.threads_required
+  pub threads_required : IsTestSetting Tells layers test_key.threads_required_of test_key.threads_required_fallback settings.threads_required
   pub run_wrapper : IsTrackedWrapper Tells layers.wrappers run_wrapper layers.scripts
       (option_copied settings.run_wrapper.0, settings.run_wrapper.1)
-  pub run_extra_args : IsCommandSetting Tells layers key.run_extra_args_of own_key.run_extra_args_fallback
+  pub run_extra_args : IsCommandSetting Tells layers command_key.run_extra_args_of command_key.run_extra_args_fallback
       (settings.run_extra_args.0.now, settings.run_extra_args.1)
-  pub retries : IsTestSetting Tells layers key.retries_of test_key.retries_fallback settings.retries
-  pub flaky_result : IsTestSetting Tells layers key.flaky_result_of test_key.flaky_result_fallback settings.flaky_result
-  pub fail_weight : IsTestSetting Tells layers key.fail_weight_of test_key.fail_weight_fallback settings.fail_weight
+  pub retries : IsTestSetting Tells layers test_key.retries_of test_key.retries_fallback settings.retries
+  pub flaky_result : IsTestSetting Tells layers test_key.flaky_result_of test_key.flaky_result_fallback settings.flaky_result
+  pub fail_weight : IsTestSetting Tells layers test_key.fail_weight_of test_key.fail_weight_fallback settings.fail_weight
   pub slow_timeout : IsTestSetting Tells layers (slow_timeout_by mode) (slow_timeout_or mode) settings.slow_timeout
-  pub leak_timeout : IsTestSetting Tells layers key.leak_timeout_of test_key.leak_timeout_fallback settings.leak_timeout
+  pub leak_timeout : IsTestSetting Tells layers test_key.leak_timeout_of test_key.leak_timeout_fallback settings.leak_timeout
   pub test_group : IsRuleSetting Tells layers rule.test_group_of schedule_key.test_group_fallback
       (group_of settings.test_group.0, settings.test_group.1)
-  pub success_output : IsReportSetting Tells layers key.success_output_of output_key.success_output_fallback
+  pub success_output : IsReportSetting Tells layers report_key.success_output_of output_key.success_output_fallback
       settings.success_output
-  pub failure_output : IsReportSetting Tells layers key.failure_output_of output_key.failure_output_fallback
+  pub failure_output : IsReportSetting Tells layers report_key.failure_output_of output_key.failure_output_fallback
       settings.failure_output
-  pub junit_store_success_output : IsReportSetting Tells layers key.junit_store_success_output_of junit_key.junit_store_success_output_fallback
+  pub junit_store_success_output : IsReportSetting Tells layers report_key.junit_store_success_output_of junit_key.junit_store_success_output_fallback
       settings.junit_store_success_output
-  pub junit_store_failure_output : IsReportSetting Tells layers key.junit_store_failure_output_of junit_key.junit_store_failure_output_fallback
+  pub junit_store_failure_output : IsReportSetting Tells layers report_key.junit_store_failure_output_of junit_key.junit_store_failure_output_fallback
       settings.junit_store_failure_output
-  pub junit_report_skipped : IsReportSetting Tells layers key.junit_report_skipped_of junit_key.junit_report_skipped_fallback
+  pub junit_report_skipped : IsReportSetting Tells layers report_key.junit_report_skipped_of junit_key.junit_report_skipped_fallback
       settings.junit_report_skipped
-  pub junit_flaky_fail_status : IsReportSetting Tells layers key.junit_flaky_fail_status_of junit_key.junit_flaky_fail_status_fallback
+  pub junit_flaky_fail_status : IsReportSetting Tells layers report_key.junit_flaky_fail_status_of junit_key.junit_flaky_fail_status_fallback
       settings.junit_flaky_fail_status
 
 -- each setting of the one is that of the other

@@ -1,7 +1,9 @@
 -- Settings that are told with what is kept of where they are taken from.
 use Rattle.std.specs.Prelude.{List, [], Option}
-use Rattle.nextest_config_resolution_keys.specs.Lists.{CommandValues, ReportValues, TestValues}
-use Rattle.nextest_config_resolution_overrides.specs.RuleKeys.{RuleValues}
+use Rattle.nextest_config_resolution_keys.specs.declared.command.CommandValues.{CommandValues}
+use Rattle.nextest_config_resolution_keys.specs.declared.report.ReportValues.{ReportValues}
+use Rattle.nextest_config_resolution_keys.specs.declared.test.TestValues.{TestValues}
+use Rattle.nextest_config_resolution_overrides.specs.declared.rule.RuleValues.{RuleValues}
 use Rattle.nextest_config_resolution_overrides.specs.declared.override_id.OverrideId.{OverrideId}
 use Rattle.nextest_config_resolution_settings.specs.Layers.{Layers, in_command, in_report, in_rule, in_test}
 use Rattle.nextest_config_resolution_settings.specs.Nearest.{IsSetting, Source}

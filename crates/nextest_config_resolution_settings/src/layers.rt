@@ -22,9 +22,9 @@ pub trait Sets<K: ConfigKey> {
 // A profile sets what its table has for the key.
 impl<K: ListedKey> Sets<K> for ProfileConfig
 where
-    ProfileConfig: HasValues<K::List>,
+    ProfileConfig: HasValues<K::Values>,
 {
-    ghost value = { λ it. K.List.value (⟦<ProfileConfig as HasValues<K::List>>⟧.values it) };
+    ghost value = { λ it. K.Values.value (⟦<ProfileConfig as HasValues<K::Values>>⟧.values it) };
 
     fn value(&self) -> Option<&K::Value> {
         get_value::<K, ProfileConfig>(self)
@@ -34,9 +34,10 @@ where
 // And so does an override.
 impl<K: ListedKey> Sets<K> for PlacedOverride
 where
-    OverrideConfig: HasValues<K::List>,
+    OverrideConfig: HasValues<K::Values>,
 {
-    ghost value = { λ it. K.List.value (⟦<OverrideConfig as HasValues<K::List>>⟧.values it.config) };
+    ghost value = { λ it.
+        K.Values.value (⟦<OverrideConfig as HasValues<K::Values>>⟧.values it.config) };
 
     fn value(&self) -> Option<&K::Value> {
         get_value::<K, OverrideConfig>(&self.config)

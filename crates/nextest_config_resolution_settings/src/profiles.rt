@@ -16,8 +16,8 @@ pub fn of_profiles<'c, K: ConfigKey, P: Sets<K>>(profiles: &[&'c P]) -> Option<&
     find_in_profiles::<K, P>(profiles).0
 }
 
-/// The value that profiles have of a setting: that of the nearest that sets it, else the fallback of
-/// its key.
+/// The value that profiles have of a setting: that of the nearest that sets it, else the fallback
+/// of its key.
 pub fn value_or_fallback<'c, K: HasFallback, P: Sets<K>>(profiles: &[&'c P]) -> K::Value
 where
     K::Value: Copy + 'c,

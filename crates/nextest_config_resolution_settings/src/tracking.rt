@@ -1,9 +1,9 @@
 // The settings of a test, with what is kept of where they are taken from.
 ghost use Rattle.std.specs.Prelude.{◌≡◌, unwrap_or};
 ghost use Rattle.std.specs.Option.{option_copied};
-ghost use Rattle.nextest_config_resolution_keys.specs.Lists.{run_extra_args_of};
+ghost use Rattle.nextest_config_resolution_keys.specs.Command.{run_extra_args_of};
 ghost use Rattle.nextest_config_resolution_keys.specs.Modes.{slow_timeout_by, slow_timeout_or};
-ghost use Rattle.nextest_config_resolution_keys.specs.Own.{run_extra_args_fallback};
+ghost use Rattle.nextest_config_resolution_keys.specs.Command.{run_extra_args_fallback};
 ghost use Rattle.nextest_config_resolution_overrides.specs.RuleKeys.{test_group_of};
 ghost use Rattle.nextest_config_resolution_overrides.specs.Schedule.{test_group_fallback};
 ghost use Rattle.nextest_config_resolution_settings.specs.Layers.{layers_in};

@@ -17,7 +17,6 @@ use Rattle.nextest_config_elements_deserialize.specs.Words.{terminate_mode}
 use Rattle.nextest_config_resolution_load.specs.Checks.{MergedConfig, config_in, merged_in}
 use Rattle.nextest_config_resolution_overrides.specs.Groups.{groups_at}
 use Rattle.nextest_config_resolution_profiles.specs.Config.{values_of}
-use Rattle.nextest_config_resolution_keys.specs.Lists as key
 use Rattle.nextest_config_resolution_settings.specs.Layers.{in_own}
 use Rattle.nextest_config_resolution_keys.specs.Run as run_key
 use Rattle.nextest_config_resolution_settings.specs.Nearest.{IsOfProfiles, Source, of_fallback, of_profile}
@@ -27,7 +26,8 @@ use Rattle.nextest_config_resolution_keys.specs.Run.{fail_fast}
 use Rattle.nextest_config_resolution_keys.specs.File.{Named, profiles_at, profiles_in, profiles_of, store_dir_at}
 use Rattle.nextest_config_resolution_keys.specs.Profile.{profile_in, profile_of}
 use Rattle.nextest_config_resolution_keys.specs.declared.profile_config.ProfileConfig.{ProfileConfig}
-use Rattle.nextest_config_resolution_keys.proofs.Read.{reads_each}
+use Rattle.nextest_config_resolution_keys.specs.Own as own_key
+use Rattle.nextest_config_resolution_keys.proofs.Accepting.{profile_parts}
 use Rattle.test_runner_core_settings.specs.Laws.{IsOneAtLeast, SetsLimit}
 
 -- ---- what holds of each value that is given
@@ -114,7 +114,7 @@ read_limit (array items) = switch_limit (array items)
 
 -- a limit that a profile sets is one at least
 abbrev HasLimit : ProfileConfig → Type 0
-HasLimit config = HoldsIfSome ((in_own key.fail_fast_of) config) IsOneAtLeast
+HasLimit config = HoldsIfSome ((in_own own_key.fail_fast_of) config) IsOneAtLeast
 
 -- what stands at a key is read so
 value_holds : {A : Type 0} (reading : Data → Reading A) (found : Option Data) (P : A → Type 0) → ((given : Data) → Holds (reading given) P)
@@ -133,7 +133,7 @@ table_has top = by_reading (profile_in top) refl
         (value_holds fail_fast_in (get_member (codes "fail-fast") top) IsOneAtLeast read_limit)
 
     by_reading : (reading : Reading ProfileConfig) → profile_in top ≡ reading → Holds reading HasLimit
-    by_reading (Ok config) e = subst (λ (reading : Reading (Option MaxFail)). Holds reading (λ (x : Option MaxFail). HoldsIfSome x IsOneAtLeast)) (reads_each top config e).fail_fast at_key
+    by_reading (Ok config) e = subst (λ (reading : Reading (Option MaxFail)). Holds reading (λ (x : Option MaxFail). HoldsIfSome x IsOneAtLeast)) (profile_parts top config e).own.fail_fast at_key
     by_reading (Err path) e = tt
 
 profile_has : (given : Data) → Holds (profile_of given) HasLimit
@@ -202,7 +202,7 @@ one_of : (front back : List ProfileConfig) (config : ProfileConfig) → AllByRec
 one_of [] back config have = have.0
 one_of (first ∷ front) back config have = one_of front back config have.1
 
-has_limit : (chain : List ProfileConfig) (limit : MaxFail) (from : Source) → AllByRecursion HasLimit chain → IsOfProfiles (in_own key.fail_fast_of) chain run_key.fail_fast_fallback limit from → IsOneAtLeast limit
+has_limit : (chain : List ProfileConfig) (limit : MaxFail) (from : Source) → AllByRecursion HasLimit chain → IsOfProfiles (in_own own_key.fail_fast_of) chain run_key.fail_fast_fallback limit from → IsOneAtLeast limit
 has_limit chain _ _ have (of_profile place limit is) =
     subst (λ (found : Option MaxFail). HoldsIfSome found IsOneAtLeast) is.sets
     (one_of is.front is.back is.layer (subst (λ (all : List ProfileConfig). AllByRecursion HasLimit all) is.divided have))

@@ -27,7 +27,6 @@ use Rattle.nextest_config_resolution_profiles.specs.declared.profile_error.Profi
 use Rattle.nextest_config_resolution_profiles.proofs.OneProfile.{one_chain_of, one_order}
 use Rattle.nextest_config_resolution_profiles.proofs.Holding.{held_once, no_least}
 use Rattle.nextest_config_resolution_scripts.specs.declared.script_rule.PlacedScriptRule.{PlacedScriptRule}
-use Rattle.nextest_config_resolution_keys.specs.Lists as key
 use Rattle.nextest_config_resolution_settings.specs.Layers.{in_own}
 use Rattle.nextest_config_resolution_keys.specs.Output as output_key
 use Rattle.nextest_config_resolution_keys.specs.Run as run_key
@@ -40,6 +39,7 @@ use Rattle.nextest_config_resolution_settings.proofs.Sourced.{one_value, same_se
 use Rattle.nextest_config_resolution_settings.proofs.Unique.{one_nearest}
 use Rattle.nextest_config_resolution_keys.specs.File.{Named}
 use Rattle.nextest_config_resolution_keys.specs.declared.profile_config.ProfileConfig.{ProfileConfig}
+use Rattle.nextest_config_resolution_keys.specs.Own as own_key
 use Rattle.nextest_config_resolution_overrides.specs.declared.placed_override.PlacedOverride.{PlacedOverride}
 use Rattle.nextest_filtering_filters.specs.Query.{Test}
 use Rattle.nextest_filtering_filters.specs.declared.known_groups.KnownGroups.TheVariants.{Known}
@@ -115,9 +115,9 @@ pub one_run : (platforms : Platforms) (profile : Chosen) (one other : RunSetting
     → one.known_groups ≡ other.known_groups → one ≡ other
 one_run platforms profile one other a b groups =
     let chain = profile.chain in
-    let limit : one.max_fail ≡ other.max_fail = one_value (in_own key.fail_fast_of) chain run_key.fail_fast_fallback _ _ a.limits.max_fail b.limits.max_fail in
-    let level : one.levels.status_level ≡ other.levels.status_level = one_value (in_own key.status_level_of) chain output_key.status_level_fallback _ _ a.limits.status_level b.limits.status_level in
-    let final_level : one.levels.final_status_level ≡ other.levels.final_status_level = one_value (in_own key.final_status_level_of) chain output_key.final_status_level_fallback _ _ a.limits.final_status_level b.limits.final_status_level in
+    let limit : one.max_fail ≡ other.max_fail = one_value (in_own own_key.fail_fast_of) chain run_key.fail_fast_fallback _ _ a.limits.max_fail b.limits.max_fail in
+    let level : one.levels.status_level ≡ other.levels.status_level = one_value (in_own own_key.status_level_of) chain output_key.status_level_fallback _ _ a.limits.status_level b.limits.status_level in
+    let final_level : one.levels.final_status_level ≡ other.levels.final_status_level = one_value (in_own own_key.final_status_level_of) chain output_key.final_status_level_fallback _ _ a.limits.final_status_level b.limits.final_status_level in
     let filter : one.default_filter ≡ other.default_filter = one_default platforms profile.rules chain one.default_filter other.default_filter a.default_filter b.default_filter in
     λ i. record {
       default_filter = filter i;

@@ -20,7 +20,6 @@ use Rattle.nextest_config_resolution_profiles.specs.Whole.{Whole}
 use Rattle.nextest_config_resolution_profiles.proofs.Filtered.{default_is_read}
 use Rattle.nextest_config_resolution_profiles.proofs.PutOn.{division_has, named_have}
 use Rattle.nextest_config_resolution_profiles.proofs.RulesRead.{rules_are_read, script_rules_are_read}
-use Rattle.nextest_config_resolution_keys.specs.Lists as key
 use Rattle.nextest_config_resolution_settings.specs.Layers.{in_command}
 use Rattle.nextest_config_resolution_settings.specs.Profile.{IsSetTo}
 use Rattle.nextest_config_resolution_settings.specs.Rules as chain_rules
@@ -35,7 +34,8 @@ use Rattle.test_runner_core_settings.specs.Sets.{IsDefault, IsFilter, IsPlatform
 use Rattle.test_runner_core_settings.proofs.Alike.{IsRead, put, targets_alike}
 use Rattle.test_runner_core_settings.proofs.Mapped.{SetsToo, least_mapped, none_mapped}
 use Rattle.test_runner_core_settings.specs.Pass.{features_of}
-use Rattle.nextest_config_resolution_keys.specs.Lists.{default_filter_of}
+use Rattle.nextest_config_resolution_keys.specs.Command.{default_filter_of}
+use Rattle.nextest_config_resolution_keys.specs.Command as command_key
 
 -- ---- the rules of a chain
 
@@ -137,7 +137,7 @@ module _ (cx : Context) (inputs : Inputs) (config : Whole Filterset PlatformSpec
   each_sets : (rules : List (LoadedOverride Filterset PlatformSpec)) → AllByRecursion (IsRead conditions_of cx (platforms_of inputs)) rules
       → AllByRecursion (SetsToo placed_of ForTarget (HoldsForTarget (platforms_of inputs)) on_platforms.default_set default_set) (map (put cx (platforms_of inputs)) rules)
   each_sets [] each = tt
-  each_sets (rule ∷ rules) each = (sets_too (default_filter_of rule.placed.config.command) rule.compiled.default_filter each.0.compiled.default_filter, each_sets rules each.1)
+  each_sets (rule ∷ rules) each = (sets_too rule.placed.config.command.default_filter rule.compiled.default_filter each.0.compiled.default_filter, each_sets rules each.1)
 
   put_each : (rules : List (LoadedOverride Filterset PlatformSpec)) → AllByRecursion (IsRead conditions_of cx (platforms_of inputs)) rules
       → AllByRecursion (λ (it : OverrideOn Filterset PlatformSpec). IsRead conditions_of cx (platforms_of inputs) it.rule) (map (put cx (platforms_of inputs)) rules)
@@ -152,7 +152,7 @@ module _ (cx : Context) (inputs : Inputs) (config : Whole Filterset PlatformSpec
       let platforms = platforms_of inputs in
       let read = division_has (λ (it : OverrideOn Filterset PlatformSpec). IsRead conditions_of cx platforms it.rule) least.front rule least.back
       (subst (AllByRecursion (λ (it : OverrideOn Filterset PlatformSpec). IsRead conditions_of cx platforms it.rule)) least.divided (put_each (own names) (each_read names))) in
-      let set = set_read (default_filter_of rule.rule.placed.config.command) rule.rule.compiled.default_filter filter read.compiled.default_filter least.sets in
+      let set = set_read rule.rule.placed.config.command.default_filter rule.rule.compiled.default_filter filter read.compiled.default_filter least.sets in
       let same : set.0 ≡ filter.input = sym set.2.0 in
       let placed = least_mapped placed_of ForTarget (HoldsForTarget platforms) on_platforms.default_set default_set (put_own names) rule filter set.0 (targets_alike conditions_of cx platforms (own names) (each_read names))
       (each_sets (own names) (each_read names)) least set.1 in (
@@ -180,6 +180,6 @@ module _ (cx : Context) (inputs : Inputs) (config : Whole Filterset PlatformSpec
       let read = default_is_read (IsFilter cx) IsPlatformSpec IsTooDeep (features_of inputs) inputs.root inputs.sources config is.chained.names early.chain early.default_filter reads is.filtered in
       let filter : early.default_filter.filter.now ≡ it.filter.now = ap (λ (d : CompiledDefaultFilter Filterset). d.filter.now) (sym same) in
       let text : is.filtered.text ≡ it.filter.now.input = sym read.0 ∙ ap (λ (f : Filterset). f.input) filter in (
-        inr (none_placed is.chained.names none, subst (IsSetTo (in_command key.default_filter_of) early.chain) text (is.filtered.place, is.filtered.nearest)),
+        inr (none_placed is.chained.names none, subst (IsSetTo (in_command command_key.default_filter_of) early.chain) text (is.filtered.place, is.filtered.nearest)),
         subst (λ (t : List ℕ). IsDefault cx t it.filter.now) text (subst (IsDefault cx is.filtered.text) filter read),
       )

@@ -20,11 +20,10 @@ use Rattle.nextest_config_resolution_profiles.specs.Platforms.{ForTarget, Overri
 use Rattle.nextest_config_resolution_profiles.specs.Platforms as on_platforms
 use Rattle.nextest_config_resolution_profiles.specs.Whole.{Whole}
 use Rattle.nextest_config_resolution_profiles.proofs.SomeChain.{some_chain}
-use Rattle.nextest_config_resolution_profiles.proofs.SetsAll.{never_falls_back}
+use Rattle.nextest_config_resolution_profiles.proofs.SetsAll.{some_filter}
 use Rattle.nextest_config_resolution_profiles.proofs.SomeConfig.{some_config}
 use Rattle.nextest_config_resolution_profiles.proofs.SomeSettings.{as_default, rules_decided, some_held}
 use Rattle.nextest_config_resolution_scripts.specs.declared.script_rule.PlacedScriptRule.{PlacedScriptRule}
-use Rattle.nextest_config_resolution_keys.specs.Lists as key
 use Rattle.nextest_config_resolution_settings.specs.Layers.{in_command, in_own}
 use Rattle.nextest_config_resolution_keys.specs.Output as output_key
 use Rattle.nextest_config_resolution_keys.specs.Run as run_key
@@ -34,6 +33,8 @@ use Rattle.nextest_config_resolution_settings.specs.Tracking.{TellsNothing, noth
 use Rattle.nextest_config_resolution_settings.proofs.Some as settings
 use Rattle.nextest_config_resolution_keys.specs.File.{Named, default_filter_in}
 use Rattle.nextest_config_resolution_keys.specs.declared.profile_config.ProfileConfig.{ProfileConfig}
+use Rattle.nextest_config_resolution_keys.specs.Own as own_key
+use Rattle.nextest_config_resolution_keys.specs.Command as command_key
 use Rattle.nextest_filtering_compiling.specs.Context.{Context}
 use Rattle.nextest_filtering_compiling.specs.FiltersetLaws.{filterset_laws}
 use Rattle.nextest_filtering_compiling.specs.Filtersets.{HasOnTest}
@@ -133,8 +134,8 @@ module _ (cx : Context) (inputs : Inputs) (config : Whole Filterset PlatformSpec
   some_default : InForce
   some_default = by_found (first_set (λ (it : OverrideOn Filterset PlatformSpec). it.for_target) on_platforms.default_set (put_own cx inputs config reads chained.names))
     where
-      unset : ¬ SetsNone (in_command key.default_filter_of) chain
-      unset = ((never_falls_back (IsFilter cx) IsPlatformSpec IsTooDeep (features_of inputs) inputs.root inputs.sources config reads).each inputs.profile chain chained).default_filter
+      unset : ¬ SetsNone (in_command command_key.default_filter_of) chain
+      unset = some_filter (IsFilter cx) IsPlatformSpec IsTooDeep (features_of inputs) inputs.root inputs.sources config reads inputs.profile chain chained
 
       by_found : ((rule : OverrideOn Filterset PlatformSpec) × (filter : Filterset) × IsLeast ForTarget on_platforms.default_set (put_own cx inputs config reads chained.names) rule filter)
           ⊎ NoneHoldsAndSets ForTarget on_platforms.default_set (put_own cx inputs config reads chained.names) → InForce
@@ -142,7 +143,7 @@ module _ (cx : Context) (inputs : Inputs) (config : Whole Filterset PlatformSpec
           let placed = least_placed cx inputs config reads chained.names rule filter least in
           record { text = filter.input; set = inl (placed_of rule, placed.0); filter = filter; read = placed.1 }
       by_found (inr none) =
-          let (text, (place, nearest)) = settings.some_nearest (in_command key.default_filter_of) chain unset in
+          let (text, (place, nearest)) = settings.some_nearest (in_command command_key.default_filter_of) chain unset in
           let (name, there) = value_named cx (profiles_of config) chained.names nearest.front nearest.layer nearest.back (chained.valued ∙ ap (map Some) nearest.divided) in
           let filter = read_of cx (profiles_of config) config.loaded.default_filters reads.1.filters name nearest.layer text there nearest.sets in
           record { text = text; set = inr (none_placed cx inputs config reads chained.names none, (place, nearest)); filter = filter.0; read = filter.1 }
@@ -161,9 +162,9 @@ module _ (cx : Context) (inputs : Inputs) (config : Whole Filterset PlatformSpec
   -- what is set for a run
   pub some_run : has_repeated_fact inputs ≡ false → (it : RunSettings) × Sets cx inputs (Ok it)
   some_run known =
-      let limit = settings.some_value (in_own key.fail_fast_of) chain run_key.fail_fast_fallback in
-      let level = settings.some_value (in_own key.status_level_of) chain output_key.status_level_fallback in
-      let final_level = settings.some_value (in_own key.final_status_level_of) chain output_key.final_status_level_fallback in (
+      let limit = settings.some_value (in_own own_key.fail_fast_of) chain run_key.fail_fast_fallback in
+      let level = settings.some_value (in_own own_key.status_level_of) chain output_key.status_level_fallback in
+      let final_level = settings.some_value (in_own own_key.final_status_level_of) chain output_key.final_status_level_fallback in (
         record {
           default_filter = some_default.text;
           known_groups = groups_in config;

@@ -3,7 +3,6 @@ use Rattle.std.specs.Prelude.{◌⊎◌, ℕ, true, List, Option, None, Some, �
 use Rattle.nextest_config_resolution_load.specs.Rules.{Conditions, conditions_of, script_conditions_of}
 use Rattle.nextest_config_resolution_overrides.specs.declared.placed_override.PlacedOverride.{PlacedOverride}
 use Rattle.nextest_config_resolution_scripts.specs.declared.script_rule.PlacedScriptRule.{PlacedScriptRule}
-use Rattle.nextest_config_resolution_keys.specs.Lists as key
 use Rattle.nextest_config_resolution_settings.specs.Layers.{in_command}
 use Rattle.nextest_config_resolution_settings.specs.Profile.{IsSetTo}
 use Rattle.nextest_config_resolution_settings.specs.Rules.{IsLeast, NoneHoldsAndSets}
@@ -17,7 +16,8 @@ use Rattle.nextest_filtering_filters.specs.declared.known_groups.KnownGroups.The
 use Rattle.nextest_filtering_ast.specs.Tree.{Tree}
 use Rattle.nextest_filtering_ast.specs.declared.leaf.BuildPlatform.TheVariants as built_for
 use Rattle.test_runner_core_settings.specs.Platforms.{HoldsFor, Platforms}
-use Rattle.nextest_config_resolution_keys.specs.Lists.{default_filter_of}
+use Rattle.nextest_config_resolution_keys.specs.Command.{default_filter_of}
+use Rattle.nextest_config_resolution_keys.specs.Command as command_key
 
 -- ---- tests
 
@@ -48,14 +48,14 @@ HoldsForTarget platforms rule = HoldsFor platforms built_for.Target (conditions_
 
 -- what an override sets as the default filter
 abbrev pub default_set : PlacedOverride → Option (List ℕ)
-default_set rule = (default_filter_of rule.config.command)
+default_set rule = rule.config.command.default_filter
 
 -- the text of the default filter: that of the first of some overrides that holds for the target and
 -- sets one, else that of the nearest of some profiles that does
 abbrev pub IsDefaultText : Platforms → List PlacedOverride → List ProfileConfig → List ℕ → Type 0
 IsDefaultText platforms rules chain text =
     ((rule : PlacedOverride) × IsLeast (HoldsForTarget platforms) default_set rules rule text)
-    ⊎ (NoneHoldsAndSets (HoldsForTarget platforms) default_set rules × IsSetTo (in_command key.default_filter_of) chain text)
+    ⊎ (NoneHoldsAndSets (HoldsForTarget platforms) default_set rules × IsSetTo (in_command command_key.default_filter_of) chain text)
 
 -- a text is this tree, as a default filter, which may ask for no group
 abbrev pub IsDefaultTree : Context → List ℕ → Tree → Type 0

@@ -4,7 +4,6 @@ use Rattle.std.specs.Option.{option_copied}
 use Rattle.nextest_config_elements_choices.specs.declared.run_mode.NextestRunMode.{NextestRunMode}
 use Rattle.nextest_config_resolution_overrides.specs.declared.placed_override.PlacedOverride.{PlacedOverride}
 use Rattle.nextest_config_resolution_scripts.specs.declared.script_rule.PlacedScriptRule.{PlacedScriptRule}
-use Rattle.nextest_config_resolution_keys.specs.Lists as key
 use Rattle.nextest_config_resolution_settings.specs.Layers.{in_own}
 use Rattle.nextest_config_resolution_keys.specs.Output as output_key
 use Rattle.nextest_config_resolution_keys.specs.Run as run_key
@@ -15,6 +14,7 @@ use Rattle.nextest_config_resolution_settings.specs.TestSettings.{AreSettings, g
 use Rattle.nextest_config_resolution_settings.specs.Tracking.{TellsNothing}
 use Rattle.nextest_config_resolution_settings.specs.declared.test_settings.TestSettings.{TestSettings}
 use Rattle.nextest_config_resolution_keys.specs.declared.profile_config.ProfileConfig.{ProfileConfig}
+use Rattle.nextest_config_resolution_keys.specs.Own as own_key
 use Rattle.nextest_filtering_compiling.specs.Context.{Context}
 use Rattle.nextest_filtering_filters.specs.Query.{Test}
 use Rattle.nextest_filtering_ast.specs.Tree.{Tree}
@@ -62,9 +62,9 @@ pub record AreOfTest (cx : Context) (platforms : Platforms) (mode : NextestRunMo
 
 -- at which weight failing tests stop a run, and what is shown of it, is what the chain has
 pub record IsOfChain (chain : List ProfileConfig) (it : RunSettings) : Type 0 where
-  pub max_fail : OfProfiles (in_own key.fail_fast_of) chain run_key.fail_fast_fallback it.max_fail
-  pub status_level : OfProfiles (in_own key.status_level_of) chain output_key.status_level_fallback it.levels.status_level
-  pub final_status_level : OfProfiles (in_own key.final_status_level_of) chain output_key.final_status_level_fallback it.levels.final_status_level
+  pub max_fail : OfProfiles (in_own own_key.fail_fast_of) chain run_key.fail_fast_fallback it.max_fail
+  pub status_level : OfProfiles (in_own own_key.status_level_of) chain output_key.status_level_fallback it.levels.status_level
+  pub final_status_level : OfProfiles (in_own own_key.final_status_level_of) chain output_key.final_status_level_fallback it.levels.final_status_level
 
 -- what a profile sets for a run
 pub record AreOfRun (platforms : Platforms) (profile : Chosen) (it : RunSettings) : Type 0 where

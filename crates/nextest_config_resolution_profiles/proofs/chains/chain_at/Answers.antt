@@ -3,7 +3,6 @@ use Rattle.std.specs.List.{Contains}
 use Rattle.nextest_config_resolution_inheritance.specs.Inheritance.{IsAccepted, Rise, default, names, names_at}
 use Rattle.nextest_config_resolution_load.proofs.Configs.{same_parents}
 use Rattle.nextest_config_resolution_load.specs.Load.{named_of}
-use Rattle.nextest_config_resolution_keys.specs.Lists as key
 use Rattle.nextest_config_resolution_settings.specs.Layers.{in_command}
 use Rattle.nextest_config_resolution_settings.specs.Nearest.{SetsNone, lent_layers}
 use Rattle.nextest_config_resolution_settings.specs.Rules.{profile_of, rules_of, script_profile_of}
@@ -13,6 +12,7 @@ use Rattle.nextest_config_resolution_profiles.specs.Early.{in_profile}
 use Rattle.nextest_config_resolution_profiles.proofs.Names.{all_of, chained, is_chained}
 use Rattle.nextest_config_resolution_profiles.proofs.SetsAll.{chain_sets_filter}
 use Rattle.nextest_config_resolution_profiles.proofs.chains.chain_at.Goals as goal
+use Rattle.nextest_config_resolution_keys.specs.Command as command_key
 
 pub chain_of-requires-clause-rise : goal.chain_of-requires-clause-rise
 chain_of-requires-clause-rise g c = subst Rise (same_parents c.args.profiles.now) c.requires.rise
@@ -30,7 +30,7 @@ default_filter_of-default_filter-requires-clause-set g c =
     let at = c.in_ok-values.ensures in
     let chain = chained all c.args.place c.in_ok-found.found.items c.as_slice-places.result.now (lent_layers c.in_ok-values.values.items) c.requires.rise c.as_slice-places.ensures.value
     c.in_ok-found.ensures.chain at in
-    subst (λ vs. ¬ SetsNone (in_command key.default_filter_of) (lent_layers vs)) (sym c.as_slice-layers.ensures.value)
+    subst (λ vs. ¬ SetsNone (in_command command_key.default_filter_of) (lent_layers vs)) (sym c.as_slice-layers.ensures.value)
     (chain_sets_filter (map named_of all) sets.values sets.text sets.there sets.sets _ (lent_layers c.in_ok-values.values.items) chain)
 
 pub returns : goal.returns

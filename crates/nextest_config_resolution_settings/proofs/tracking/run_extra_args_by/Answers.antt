@@ -1,7 +1,7 @@
 use Rattle.std.proofs.Common.{◌≡◌, ℕ, List, [], Option, unwrap_or, sym, ap, ◌∙◌, subst}
 use Rattle.std.specs.Option.{option_copied}
-use Rattle.nextest_config_resolution_keys.specs.Lists.{run_extra_args_of}
-use Rattle.nextest_config_resolution_keys.specs.Own.{run_extra_args_fallback}
+use Rattle.nextest_config_resolution_keys.specs.Command.{run_extra_args_of}
+use Rattle.nextest_config_resolution_keys.specs.Command.{run_extra_args_fallback}
 use Rattle.nextest_config_resolution_settings.specs.Layers.{layers_in}
 use Rattle.nextest_config_resolution_settings.specs.Tracked.{IsCommandSetting}
 use Rattle.nextest_config_resolution_settings.proofs.tracking.run_extra_args_by.Goals as goal

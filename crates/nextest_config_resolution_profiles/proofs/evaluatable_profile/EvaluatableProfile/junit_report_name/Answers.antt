@@ -1,7 +1,7 @@
 use Rattle.std.proofs.Common.{◌≡◌, ℕ, List, Option, unwrap_or, sym, ap, ◌∙◌, subst}
 use Rattle.std.specs.Option.{option_copied}
 use Rattle.nextest_config_resolution_keys.specs.Junit.{junit_report_name_fallback}
-use Rattle.nextest_config_resolution_keys.specs.Lists.{junit_report_name_of}
+use Rattle.nextest_config_resolution_keys.specs.Own.{junit_report_name_of}
 use Rattle.nextest_config_resolution_settings.specs.Layers.{in_own}
 use Rattle.nextest_config_resolution_settings.specs.Profile.{OfProfiles}
 use Rattle.nextest_config_resolution_profiles.proofs.evaluatable_profile.EvaluatableProfile.junit_report_name.Goals as goal
