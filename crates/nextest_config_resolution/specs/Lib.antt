@@ -90,6 +90,7 @@ pub use Rattle.nextest_config_resolution_profiles.specs.BuiltIn
 pub use Rattle.nextest_config_resolution_profiles.specs.BuiltInLaws as BuiltInLaws
 -- warnings
 pub use Rattle.nextest_config_resolution_warnings.specs.Laws as WarningLaws
+pub use Rattle.nextest_config_resolution_warnings.specs.Listed as ListedKeys
 pub use Rattle.nextest_config_resolution_warnings.specs.Places
 pub use Rattle.nextest_config_resolution_warnings.specs.Reserved
 pub use Rattle.nextest_config_resolution_warnings.specs.ShortLists
@@ -181,12 +182,14 @@ pub use Rattle.nextest_config_resolution_sources.specs.declared.paths.ConfigPath
 pub use Rattle.nextest_config_resolution_sources.specs.declared.source.ConfigSource
 pub use Rattle.nextest_config_resolution_sources.specs.declared.source.ConfigSourceOutcome
 pub use Rattle.nextest_config_resolution_keys.specs.declared.command.CommandValues
+pub use Rattle.nextest_config_resolution_keys.specs.declared.known.Known
 pub use Rattle.nextest_config_resolution_keys.specs.declared.own.OwnValues
 pub use Rattle.nextest_config_resolution_keys.specs.declared.profile_config.ProfileConfig
 pub use Rattle.nextest_config_resolution_keys.specs.declared.report.ReportValues
 pub use Rattle.nextest_config_resolution_keys.specs.declared.test.TestValues
 pub use Rattle.nextest_config_resolution_warnings.specs.declared.config_warning.ConfigWarning
-pub use Rattle.nextest_config_resolution_warnings.specs.declared.place.Place
+pub use Rattle.nextest_config_resolution_warnings.specs.declared.kind.Kind
+pub use Rattle.nextest_config_resolution_warnings.specs.declared.listed.Listed
 pub use Rattle.nextest_config_resolution_warnings.specs.declared.shown.Shown
 pub use Rattle.nextest_config_elements_choices.specs.declared.run_mode.NextestRunMode
 pub use Rattle.nextest_filtering_arguments.specs.declared.ban.FiltersetKind

@@ -1,4 +1,5 @@
 pub mod Accepting
 mod Joined
+pub mod KnownBoth
 pub mod Made
 pub mod OneByOne

@@ -1,9 +1,11 @@
 -- The keys that tell which tests are run, and with which arguments.
 use Rattle.std.specs.Prelude.{◌≡◌, ℕ, List, [], ◌∷◌, codes, Option, None, Some, Ok}
+use Rattle.std.proofs.Common.{refl, subst}
 use Rattle.toml.specs.Data.{Members, as_str}
 use Rattle.nextest_config_elements_toml.specs.Reading.{Reading, leaf}
 use Rattle.nextest_config_elements_deserialize.specs.Keys.{texts_of}
 use Rattle.nextest_config_resolution_keys.specs.Keys.{Key, value_of}
+use Rattle.nextest_config_resolution_keys.specs.Listed.{joined_parts, read_of}
 use Rattle.nextest_config_resolution_keys.specs.Rows.{Row, both, made_of, nothing, row_of}
 use Rattle.nextest_config_resolution_keys.specs.declared.command.CommandValues.{CommandValues}
 
@@ -63,3 +65,17 @@ default_filter_of it = it.default_filter
 
 abbrev pub run_extra_args_of : CommandValues → Option (List (List ℕ))
 run_extra_args_of it = it.run_extra_args
+
+-- ---- each key by itself
+
+command_tuple : (given : Members) (tuple : CommandTuple) → command_tuple_in given ≡ Ok tuple → IsCommand given (command_values tuple)
+command_tuple given tuple is =
+    let at_0 = joined_parts _ _ tuple is in
+    let at_1 = joined_parts _ _ tuple.1 at_0.1 in
+    record { default_filter = at_0.0; run_extra_args = at_1.0 }
+
+pub command_read : (given : Members) (it : CommandValues) → command_in given ≡ Ok it → IsCommand given it
+command_read given it is = let made = read_of command_values (command_tuple_in given) it is in subst (IsCommand given) made.is (command_tuple given made.values made.reads)
+
+pub command_made : (given : Members) (it : CommandValues) → IsCommand given it → command_tuple_in given ≡ Ok (it.default_filter, (it.run_extra_args, tt))
+command_made given it is = rw (is.default_filter, is.run_extra_args) refl

@@ -12,5 +12,4 @@ pub mod Report
 pub mod Modes
 pub mod Profile
 pub mod Listed
-pub mod KeyByKey
 pub mod File

@@ -1,5 +1,6 @@
 -- The keys that profiles alone have.
 use Rattle.std.specs.Prelude.{◌≡◌, ℕ, List, [], ◌∷◌, codes, Option, None, Some, Ok}
+use Rattle.std.proofs.Common.{refl, subst}
 use Rattle.toml.specs.Data.{Members, as_str}
 use Rattle.nextest_config_elements_choices.specs.declared.max_fail.MaxFail.{MaxFail}
 use Rattle.nextest_config_elements_choices.specs.declared.status_level.FinalStatusLevel.{FinalStatusLevel}
@@ -11,6 +12,7 @@ use Rattle.nextest_config_resolution_keys.specs.Bench.{bench_global_timeout, ben
 use Rattle.nextest_config_resolution_keys.specs.Junit.{junit_path, junit_report_name, junit_report_name_fallback}
 use Rattle.nextest_config_resolution_keys.specs.Keys.{Key, value_of}
 use Rattle.nextest_config_resolution_keys.specs.Output.{final_status_level, final_status_level_fallback, status_level, status_level_fallback}
+use Rattle.nextest_config_resolution_keys.specs.Listed.{joined_parts, read_of}
 use Rattle.nextest_config_resolution_keys.specs.Rows.{Row, both, made_of, nothing, row_of}
 use Rattle.nextest_config_resolution_keys.specs.Run.{fail_fast, fail_fast_fallback, global_timeout, global_timeout_fallback, test_threads, test_threads_fallback}
 use Rattle.nextest_config_resolution_keys.specs.declared.own.OwnValues.{OwnValues}
@@ -105,3 +107,24 @@ status_level_of it = it.status_level
 
 abbrev pub test_threads_of : OwnValues → Option TestThreads
 test_threads_of it = it.test_threads
+
+-- ---- each key by itself
+
+own_tuple : (given : Members) (tuple : OwnTuple) → own_tuple_in given ≡ Ok tuple → IsOwn given (own_values tuple)
+own_tuple given tuple is =
+    let at_0 = joined_parts _ _ tuple is in
+    let at_1 = joined_parts _ _ tuple.1 at_0.1 in
+    let at_2 = joined_parts _ _ tuple.1.1 at_1.1 in
+    let at_3 = joined_parts _ _ tuple.1.1.1 at_2.1 in
+    let at_4 = joined_parts _ _ tuple.1.1.1.1 at_3.1 in
+    let at_5 = joined_parts _ _ tuple.1.1.1.1.1 at_4.1 in
+    let at_6 = joined_parts _ _ tuple.1.1.1.1.1.1 at_5.1 in
+    let at_7 = joined_parts _ _ tuple.1.1.1.1.1.1.1 at_6.1 in
+    let at_8 = joined_parts _ _ tuple.1.1.1.1.1.1.1.1 at_7.1 in
+    record { bench_global_timeout = at_0.0; fail_fast = at_1.0; final_status_level = at_2.0; global_timeout = at_3.0; inherits = at_4.0; junit_path = at_5.0; junit_report_name = at_6.0; status_level = at_7.0; test_threads = at_8.0 }
+
+pub own_read : (given : Members) (it : OwnValues) → own_in given ≡ Ok it → IsOwn given it
+own_read given it is = let made = read_of own_values (own_tuple_in given) it is in subst (IsOwn given) made.is (own_tuple given made.values made.reads)
+
+pub own_made : (given : Members) (it : OwnValues) → IsOwn given it → own_tuple_in given ≡ Ok (it.bench_global_timeout, (it.fail_fast, (it.final_status_level, (it.global_timeout, (it.inherits, (it.junit_path, (it.junit_report_name, (it.status_level, (it.test_threads, tt)))))))))
+own_made given it is = rw (is.bench_global_timeout, is.fail_fast, is.final_status_level, is.global_timeout, is.inherits, is.junit_path, is.junit_report_name, is.status_level, is.test_threads) refl

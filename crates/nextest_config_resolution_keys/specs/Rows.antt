@@ -1,5 +1,7 @@
--- What a table is refused for by several keys.
-use Rattle.std.specs.Prelude.{◌≡◌, ⊤, List, [], ◌∷◌, Option, None, Some, Ok, Err}
+-- What a table is refused for by several keys, and where they stand in it.
+use Rattle.std.specs.Prelude.{◌≡◌, ⊤, List, [], ◌∷◌, Option, None, Some, Ok, Err, if◌then◌else◌}
+use Rattle.std.specs.Option.{option_or}
+use Rattle.std.specs.Str.{bytes_eq}
 use Rattle.std.specs.Cmp.Lexicographic.{slice_cmp}
 use Rattle.std.specs.Ordering.{nat_cmp, match_ordering}
 use Rattle.toml.specs.Data.{Members}
@@ -7,6 +9,8 @@ use Rattle.nextest_config_elements_toml.specs.Reading.{Path, Reading}
 use Rattle.nextest_config_elements_toml.specs.declared.value_error.ValueError.{ValueError}
 use Rattle.nextest_config_elements_toml.specs.declared.value_error.ValueError.TheVariants as error
 use Rattle.nextest_config_resolution_keys.specs.Keys.{Key, value_of}
+use Rattle.nextest_config_resolution_keys.specs.declared.known.Known.{Known}
+use Rattle.nextest_config_resolution_keys.specs.declared.known.Known.TheVariants as there
 
 -- where the first thing stands that a reading refuses, if it refuses one
 abbrev pub refusal_of : {A : Type 0} → Reading A → Option Path
@@ -60,3 +64,17 @@ IsLeast (error.Refused one) (error.Refused other) (error.Refused bad) = bad.path
 IsLeast error.OutOfMemory other (error.Refused bad) = ⊥
 IsLeast one error.OutOfMemory (error.Refused bad) = ⊥
 IsLeast one other error.OutOfMemory = ⊤
+
+-- ---- where keys stand
+
+-- what stands at a path of a table, by the path of one key: its value, or a table that it is in
+abbrev pub known_by : Path → Path → Option Known
+known_by [] [] = Some there.Value
+known_by (key ∷ more) [] = Some there.Table
+known_by [] (key ∷ path) = None
+known_by (first ∷ more) (key ∷ path) = if bytes_eq first key then known_by more path else None
+
+-- and by those of several
+abbrev pub known : List Row → Path → Option Known
+known [] path = None
+known (row ∷ rows) path = option_or (known_by row.path path) (known rows path)

@@ -1,5 +1,6 @@
 -- The keys that tell how a test is run.
 use Rattle.std.specs.Prelude.{◌≡◌, ℕ, List, [], ◌∷◌, codes, Option, None, Some, Ok}
+use Rattle.std.proofs.Common.{refl, subst}
 use Rattle.toml.specs.Data.{Members}
 use Rattle.nextest_config_elements_toml.specs.Reading.{Reading}
 use Rattle.nextest_config_elements_deserialize.specs.FailWeights.{fail_weight_in}
@@ -14,6 +15,7 @@ use Rattle.nextest_config_elements_values.specs.declared.timeouts.LeakTimeout.{L
 use Rattle.nextest_config_elements_values.specs.declared.timeouts.SlowTimeout.{SlowTimeout}
 use Rattle.nextest_config_resolution_keys.specs.Bench.{bench_slow_timeout, bench_slow_timeout_fallback}
 use Rattle.nextest_config_resolution_keys.specs.Keys.{Key, value_of}
+use Rattle.nextest_config_resolution_keys.specs.Listed.{joined_parts, read_of}
 use Rattle.nextest_config_resolution_keys.specs.Rows.{Row, both, made_of, nothing, row_of}
 use Rattle.nextest_config_resolution_keys.specs.declared.test.TestValues.{TestValues}
 use Rattle.nextest_config_elements_choices.specs.declared.timeouts.FlakyResult.TheVariants as flaky
@@ -144,3 +146,22 @@ slow_timeout_of it = it.slow_timeout
 
 abbrev pub threads_required_of : TestValues → Option ThreadsRequired
 threads_required_of it = it.threads_required
+
+-- ---- each key by itself
+
+test_tuple : (given : Members) (tuple : TestTuple) → test_tuple_in given ≡ Ok tuple → IsTest given (test_values tuple)
+test_tuple given tuple is =
+    let at_0 = joined_parts _ _ tuple is in
+    let at_1 = joined_parts _ _ tuple.1 at_0.1 in
+    let at_2 = joined_parts _ _ tuple.1.1 at_1.1 in
+    let at_3 = joined_parts _ _ tuple.1.1.1 at_2.1 in
+    let at_4 = joined_parts _ _ tuple.1.1.1.1 at_3.1 in
+    let at_5 = joined_parts _ _ tuple.1.1.1.1.1 at_4.1 in
+    let at_6 = joined_parts _ _ tuple.1.1.1.1.1.1 at_5.1 in
+    record { bench_slow_timeout = at_0.0; fail_weight = at_1.0; flaky_result = at_2.0; leak_timeout = at_3.0; retries = at_4.0; slow_timeout = at_5.0; threads_required = at_6.0 }
+
+pub test_read : (given : Members) (it : TestValues) → test_in given ≡ Ok it → IsTest given it
+test_read given it is = let made = read_of test_values (test_tuple_in given) it is in subst (IsTest given) made.is (test_tuple given made.values made.reads)
+
+pub test_made : (given : Members) (it : TestValues) → IsTest given it → test_tuple_in given ≡ Ok (it.bench_slow_timeout, (it.fail_weight, (it.flaky_result, (it.leak_timeout, (it.retries, (it.slow_timeout, (it.threads_required, tt)))))))
+test_made given it is = rw (is.bench_slow_timeout, is.fail_weight, is.flaky_result, is.leak_timeout, is.retries, is.slow_timeout, is.threads_required) refl

@@ -41,7 +41,7 @@ impl HasFallback for BenchGlobalTimeoutKey {
 }
 
 impl HasKey<BenchGlobalTimeoutKey> for OwnValues {
-    ghost use Rattle.nextest_config_resolution_keys.specs.KeyByKey.{own_read};
+    ghost use Rattle.nextest_config_resolution_keys.specs.Own.{own_read};
 
     ghost value = { λ it. it.bench_global_timeout };
 
@@ -83,7 +83,7 @@ impl HasFallback for BenchSlowTimeoutKey {
 }
 
 impl HasKey<BenchSlowTimeoutKey> for TestValues {
-    ghost use Rattle.nextest_config_resolution_keys.specs.KeyByKey.{test_read};
+    ghost use Rattle.nextest_config_resolution_keys.specs.Test.{test_read};
 
     ghost value = { λ it. it.bench_slow_timeout };
 

@@ -30,7 +30,7 @@ impl ConfigKey for DefaultFilterKey {
 }
 
 impl HasKey<DefaultFilterKey> for CommandValues {
-    ghost use Rattle.nextest_config_resolution_keys.specs.KeyByKey.{command_read};
+    ghost use Rattle.nextest_config_resolution_keys.specs.Command.{command_read};
 
     ghost value = { λ it. it.default_filter };
 
@@ -63,7 +63,7 @@ impl ConfigKey for RunExtraArgsKey {
 }
 
 impl HasKey<RunExtraArgsKey> for CommandValues {
-    ghost use Rattle.nextest_config_resolution_keys.specs.KeyByKey.{command_read};
+    ghost use Rattle.nextest_config_resolution_keys.specs.Command.{command_read};
 
     ghost value = { λ it. it.run_extra_args };
 

@@ -43,7 +43,7 @@ impl HasFallback for JunitFlakyFailStatusKey {
 }
 
 impl HasKey<JunitFlakyFailStatusKey> for ReportValues {
-    ghost use Rattle.nextest_config_resolution_keys.specs.KeyByKey.{report_read};
+    ghost use Rattle.nextest_config_resolution_keys.specs.Report.{report_read};
 
     ghost value = { λ it. it.junit_flaky_fail_status };
 
@@ -76,7 +76,7 @@ impl ConfigKey for JunitPathKey {
 }
 
 impl HasKey<JunitPathKey> for OwnValues {
-    ghost use Rattle.nextest_config_resolution_keys.specs.KeyByKey.{own_read};
+    ghost use Rattle.nextest_config_resolution_keys.specs.Own.{own_read};
 
     ghost value = { λ it. it.junit_path };
 
@@ -109,7 +109,7 @@ impl ConfigKey for JunitReportNameKey {
 }
 
 impl HasKey<JunitReportNameKey> for OwnValues {
-    ghost use Rattle.nextest_config_resolution_keys.specs.KeyByKey.{own_read};
+    ghost use Rattle.nextest_config_resolution_keys.specs.Own.{own_read};
 
     ghost value = { λ it. it.junit_report_name };
 
@@ -150,7 +150,7 @@ impl HasFallback for JunitReportSkippedKey {
 }
 
 impl HasKey<JunitReportSkippedKey> for ReportValues {
-    ghost use Rattle.nextest_config_resolution_keys.specs.KeyByKey.{report_read};
+    ghost use Rattle.nextest_config_resolution_keys.specs.Report.{report_read};
 
     ghost value = { λ it. it.junit_report_skipped };
 
@@ -192,7 +192,7 @@ impl HasFallback for JunitStoreFailureOutputKey {
 }
 
 impl HasKey<JunitStoreFailureOutputKey> for ReportValues {
-    ghost use Rattle.nextest_config_resolution_keys.specs.KeyByKey.{report_read};
+    ghost use Rattle.nextest_config_resolution_keys.specs.Report.{report_read};
 
     ghost value = { λ it. it.junit_store_failure_output };
 
@@ -234,7 +234,7 @@ impl HasFallback for JunitStoreSuccessOutputKey {
 }
 
 impl HasKey<JunitStoreSuccessOutputKey> for ReportValues {
-    ghost use Rattle.nextest_config_resolution_keys.specs.KeyByKey.{report_read};
+    ghost use Rattle.nextest_config_resolution_keys.specs.Report.{report_read};
 
     ghost value = { λ it. it.junit_store_success_output };
 

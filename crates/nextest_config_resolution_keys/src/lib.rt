@@ -13,6 +13,7 @@ mod items;
 mod joining;
 mod junit;
 mod key_list;
+mod known;
 pub mod laws;
 mod output;
 mod own;
@@ -34,6 +35,7 @@ pub use junit::{
     JunitStoreFailureOutputKey, JunitStoreSuccessOutputKey, junit_report_name_fallback,
 };
 pub use key_list::{Both, DeserializeKeys, KeyList};
+pub use known::{Known, KnownKeys};
 pub use output::{FailureOutputKey, FinalStatusLevelKey, StatusLevelKey, SuccessOutputKey};
 pub use own::{InheritsKey, OwnKeys, OwnValues};
 pub use profile_config::{

@@ -39,7 +39,7 @@ impl HasFallback for FailureOutputKey {
 }
 
 impl HasKey<FailureOutputKey> for ReportValues {
-    ghost use Rattle.nextest_config_resolution_keys.specs.KeyByKey.{report_read};
+    ghost use Rattle.nextest_config_resolution_keys.specs.Report.{report_read};
 
     ghost value = { λ it. it.failure_output };
 
@@ -81,7 +81,7 @@ impl HasFallback for FinalStatusLevelKey {
 }
 
 impl HasKey<FinalStatusLevelKey> for OwnValues {
-    ghost use Rattle.nextest_config_resolution_keys.specs.KeyByKey.{own_read};
+    ghost use Rattle.nextest_config_resolution_keys.specs.Own.{own_read};
 
     ghost value = { λ it. it.final_status_level };
 
@@ -123,7 +123,7 @@ impl HasFallback for StatusLevelKey {
 }
 
 impl HasKey<StatusLevelKey> for OwnValues {
-    ghost use Rattle.nextest_config_resolution_keys.specs.KeyByKey.{own_read};
+    ghost use Rattle.nextest_config_resolution_keys.specs.Own.{own_read};
 
     ghost value = { λ it. it.status_level };
 
@@ -164,7 +164,7 @@ impl HasFallback for SuccessOutputKey {
 }
 
 impl HasKey<SuccessOutputKey> for ReportValues {
-    ghost use Rattle.nextest_config_resolution_keys.specs.KeyByKey.{report_read};
+    ghost use Rattle.nextest_config_resolution_keys.specs.Report.{report_read};
 
     ghost value = { λ it. it.success_output };
 

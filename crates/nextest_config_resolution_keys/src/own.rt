@@ -35,7 +35,7 @@ impl ConfigKey for InheritsKey {
 }
 
 impl HasKey<InheritsKey> for OwnValues {
-    ghost use Rattle.nextest_config_resolution_keys.specs.KeyByKey.{own_read};
+    ghost use Rattle.nextest_config_resolution_keys.specs.Own.{own_read};
 
     ghost value = { λ it. it.inherits };
 

@@ -50,7 +50,7 @@ impl KeyValues for ProfileConfig {
 }
 
 impl HasValues<OwnValues> for ProfileConfig {
-    ghost use Rattle.nextest_config_resolution_keys.specs.KeyByKey.{profile_read};
+    ghost use Rattle.nextest_config_resolution_keys.specs.Profile.{profile_read};
 
     ghost values = { λ it. it.own };
 
@@ -65,7 +65,7 @@ impl HasValues<OwnValues> for ProfileConfig {
 }
 
 impl HasValues<CommandValues> for ProfileConfig {
-    ghost use Rattle.nextest_config_resolution_keys.specs.KeyByKey.{profile_read};
+    ghost use Rattle.nextest_config_resolution_keys.specs.Profile.{profile_read};
 
     ghost values = { λ it. it.command };
 
@@ -80,7 +80,7 @@ impl HasValues<CommandValues> for ProfileConfig {
 }
 
 impl HasValues<TestValues> for ProfileConfig {
-    ghost use Rattle.nextest_config_resolution_keys.specs.KeyByKey.{profile_read};
+    ghost use Rattle.nextest_config_resolution_keys.specs.Profile.{profile_read};
 
     ghost values = { λ it. it.test };
 
@@ -95,7 +95,7 @@ impl HasValues<TestValues> for ProfileConfig {
 }
 
 impl HasValues<ReportValues> for ProfileConfig {
-    ghost use Rattle.nextest_config_resolution_keys.specs.KeyByKey.{profile_read};
+    ghost use Rattle.nextest_config_resolution_keys.specs.Profile.{profile_read};
 
     ghost values = { λ it. it.report };
 

@@ -41,7 +41,7 @@ impl HasFallback for FailFastKey {
 }
 
 impl HasKey<FailFastKey> for OwnValues {
-    ghost use Rattle.nextest_config_resolution_keys.specs.KeyByKey.{own_read};
+    ghost use Rattle.nextest_config_resolution_keys.specs.Own.{own_read};
 
     ghost value = { λ it. it.fail_fast };
 
@@ -84,7 +84,7 @@ impl HasFallback for GlobalTimeoutKey {
 }
 
 impl HasKey<GlobalTimeoutKey> for OwnValues {
-    ghost use Rattle.nextest_config_resolution_keys.specs.KeyByKey.{own_read};
+    ghost use Rattle.nextest_config_resolution_keys.specs.Own.{own_read};
 
     ghost value = { λ it. it.global_timeout };
 
@@ -126,7 +126,7 @@ impl HasFallback for TestThreadsKey {
 }
 
 impl HasKey<TestThreadsKey> for OwnValues {
-    ghost use Rattle.nextest_config_resolution_keys.specs.KeyByKey.{own_read};
+    ghost use Rattle.nextest_config_resolution_keys.specs.Own.{own_read};
 
     ghost value = { λ it. it.test_threads };
 

@@ -45,7 +45,7 @@ impl HasFallback for FailWeightKey {
 }
 
 impl HasKey<FailWeightKey> for TestValues {
-    ghost use Rattle.nextest_config_resolution_keys.specs.KeyByKey.{test_read};
+    ghost use Rattle.nextest_config_resolution_keys.specs.Test.{test_read};
 
     ghost value = { λ it. it.fail_weight };
 
@@ -87,7 +87,7 @@ impl HasFallback for FlakyResultKey {
 }
 
 impl HasKey<FlakyResultKey> for TestValues {
-    ghost use Rattle.nextest_config_resolution_keys.specs.KeyByKey.{test_read};
+    ghost use Rattle.nextest_config_resolution_keys.specs.Test.{test_read};
 
     ghost value = { λ it. it.flaky_result };
 
@@ -132,7 +132,7 @@ impl HasFallback for LeakTimeoutKey {
 }
 
 impl HasKey<LeakTimeoutKey> for TestValues {
-    ghost use Rattle.nextest_config_resolution_keys.specs.KeyByKey.{test_read};
+    ghost use Rattle.nextest_config_resolution_keys.specs.Test.{test_read};
 
     ghost value = { λ it. it.leak_timeout };
 
@@ -173,7 +173,7 @@ impl HasFallback for RetriesKey {
 }
 
 impl HasKey<RetriesKey> for TestValues {
-    ghost use Rattle.nextest_config_resolution_keys.specs.KeyByKey.{test_read};
+    ghost use Rattle.nextest_config_resolution_keys.specs.Test.{test_read};
 
     ghost value = { λ it. it.retries };
 
@@ -215,7 +215,7 @@ impl HasFallback for SlowTimeoutKey {
 }
 
 impl HasKey<SlowTimeoutKey> for TestValues {
-    ghost use Rattle.nextest_config_resolution_keys.specs.KeyByKey.{test_read};
+    ghost use Rattle.nextest_config_resolution_keys.specs.Test.{test_read};
 
     ghost value = { λ it. it.slow_timeout };
 
@@ -256,7 +256,7 @@ impl HasFallback for ThreadsRequiredKey {
 }
 
 impl HasKey<ThreadsRequiredKey> for TestValues {
-    ghost use Rattle.nextest_config_resolution_keys.specs.KeyByKey.{test_read};
+    ghost use Rattle.nextest_config_resolution_keys.specs.Test.{test_read};
 
     ghost value = { λ it. it.threads_required };
 

@@ -1,16 +1,12 @@
 -- Which tables are overrides.
 use Rattle.std.proofs.Common.{◌≡◌, ◌↔◌, Ok, refl}
 use Rattle.toml.specs.Data.{Members}
-use Rattle.nextest_config_resolution_overrides.specs.KeyByKey.{override_read, rule_read}
-use Rattle.nextest_config_resolution_keys.proofs.Accepting.{command_made, report_made, test_made}
-use Rattle.nextest_config_resolution_keys.specs.KeyByKey.{command_read, report_read, test_read}
-use Rattle.nextest_config_resolution_overrides.specs.Overrides.{IsOverride, override_in}
-use Rattle.nextest_config_resolution_overrides.specs.RuleKeys.{IsRule, rule_tuple_in}
+use Rattle.nextest_config_resolution_keys.specs.Command.{command_made, command_read}
+use Rattle.nextest_config_resolution_keys.specs.Report.{report_made, report_read}
+use Rattle.nextest_config_resolution_keys.specs.Test.{test_made, test_read}
+use Rattle.nextest_config_resolution_overrides.specs.Overrides.{IsOverride, override_in, override_read}
+use Rattle.nextest_config_resolution_overrides.specs.RuleKeys.{rule_made, rule_read}
 use Rattle.nextest_config_resolution_overrides.specs.declared.override_config.OverrideConfig.{OverrideConfig}
-use Rattle.nextest_config_resolution_overrides.specs.declared.rule.RuleValues.{RuleValues}
-
-rule_made : (given : Members) (it : RuleValues) → IsRule given it → rule_tuple_in given ≡ Ok (it.filter, (it.platform, (it.priority, (it.test_group, tt))))
-rule_made given it is = rw (is.filter, is.platform, is.priority, is.test_group) refl
 
 override_parts : (given : Members) (it : OverrideConfig) → override_in given ≡ Ok it → IsOverride given it
 override_parts given it is = let read = override_read given it is in record {

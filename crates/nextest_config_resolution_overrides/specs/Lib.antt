@@ -1,7 +1,6 @@
 pub mod Condition
 pub mod Groups
 pub mod Overrides
-pub mod KeyByKey
 pub mod Platforms
 pub mod RuleKeys
 pub mod Schedule

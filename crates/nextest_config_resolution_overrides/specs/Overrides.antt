@@ -1,15 +1,17 @@
 -- The overrides of a profile, as a file says them.
-use Rattle.std.specs.Prelude.{List, [], ◌∷◌, ◌++◌, Err, codes}
+use Rattle.std.specs.Prelude.{◌≡◌, List, [], ◌∷◌, ◌++◌, Ok, Err, codes}
+use Rattle.std.proofs.Common.{ap, subst}
 use Rattle.toml.specs.Data.{Data, array, Members}
 use Rattle.nextest_config_elements_deserialize.specs.Keys.{table_by}
 use Rattle.nextest_config_elements_toml.specs.Reading.{Reading}
 use Rattle.nextest_config_resolution_keys.specs.Items.{items_in}
 use Rattle.nextest_config_resolution_keys.specs.Keys.{Key}
-use Rattle.nextest_config_resolution_keys.specs.Command.{CommandTuple, IsCommand, command_rows, command_tuple_in, command_values}
-use Rattle.nextest_config_resolution_keys.specs.Report.{IsReport, ReportTuple, report_rows, report_tuple_in, report_values}
+use Rattle.nextest_config_resolution_keys.specs.Command.{CommandTuple, IsCommand, command_in, command_rows, command_tuple_in, command_values}
+use Rattle.nextest_config_resolution_keys.specs.Listed.{joined_parts, read_of}
+use Rattle.nextest_config_resolution_keys.specs.Report.{IsReport, ReportTuple, report_in, report_rows, report_tuple_in, report_values}
 use Rattle.nextest_config_resolution_keys.specs.Rows.{Row, both, made_of}
-use Rattle.nextest_config_resolution_keys.specs.Test.{IsTest, TestTuple, test_rows, test_tuple_in, test_values}
-use Rattle.nextest_config_resolution_overrides.specs.RuleKeys.{IsRule, RuleTuple, rule_rows, rule_tuple_in, rule_values}
+use Rattle.nextest_config_resolution_keys.specs.Test.{IsTest, TestTuple, test_in, test_rows, test_tuple_in, test_values}
+use Rattle.nextest_config_resolution_overrides.specs.RuleKeys.{IsRule, RuleTuple, rule_in, rule_rows, rule_tuple_in, rule_values}
 use Rattle.nextest_config_resolution_overrides.specs.declared.override_config.OverrideConfig.{OverrideConfig}
 
 -- the keys of an override
@@ -47,3 +49,24 @@ overrides_of given = Err []
 -- `overrides`: the overrides of a profile
 abbrev pub overrides : Key (List OverrideConfig)
 overrides = record { path = codes "overrides" ∷ []; reading = overrides_of }
+
+-- ---- each part of an override by itself
+
+-- each part of it is read of its table
+pub record OverrideParts (given : Members) (it : OverrideConfig) : Type 0 where
+  pub rule : rule_in given ≡ Ok it.rule
+  pub command : command_in given ≡ Ok it.command
+  pub test : test_in given ≡ Ok it.test
+  pub report : report_in given ≡ Ok it.report
+
+override_tuple : (given : Members) (tuple : OverrideTuple) → override_tuple_in given ≡ Ok tuple → OverrideParts given (override_values tuple)
+override_tuple given tuple is =
+    let halves = joined_parts _ _ tuple is in
+    let first = joined_parts _ _ tuple.0 halves.0 in
+    let second = joined_parts _ _ tuple.1 halves.1 in
+    record { rule = ap (made_of rule_values) first.0; command = ap (made_of command_values) first.1; test = ap (made_of test_values) second.0; report = ap (made_of report_values) second.1 }
+
+pub override_read : (given : Members) (it : OverrideConfig) → override_in given ≡ Ok it → OverrideParts given it
+unfolding override_in
+override_read given it is =
+    let made = read_of override_values (override_tuple_in given) it is in subst (OverrideParts given) made.is (override_tuple given made.values made.reads)

@@ -1,10 +1,12 @@
 -- The keys that overrides alone have: on which platforms and tests an override holds, and in which
 -- order and group these tests run.
 use Rattle.std.specs.Prelude.{◌≡◌, ℕ, ℤ, List, [], ◌∷◌, Option, Ok}
+use Rattle.std.proofs.Common.{refl, subst}
 use Rattle.toml.specs.Data.{Members}
 use Rattle.nextest_config_elements_identifiers.specs.declared.test_group.TestGroup.{TestGroup}
 use Rattle.nextest_config_elements_toml.specs.Reading.{Reading}
 use Rattle.nextest_config_resolution_keys.specs.Keys.{value_of}
+use Rattle.nextest_config_resolution_keys.specs.Listed.{joined_parts, read_of}
 use Rattle.nextest_config_resolution_keys.specs.Rows.{Row, both, made_of, nothing, row_of}
 use Rattle.nextest_config_resolution_overrides.specs.Condition.{filter, platform}
 use Rattle.nextest_config_resolution_overrides.specs.Schedule.{priority, test_group}
@@ -52,3 +54,19 @@ priority_of it = it.priority
 
 abbrev pub test_group_of : RuleValues → Option TestGroup
 test_group_of it = it.test_group
+
+-- ---- each key by itself
+
+rule_tuple : (given : Members) (tuple : RuleTuple) → rule_tuple_in given ≡ Ok tuple → IsRule given (rule_values tuple)
+rule_tuple given tuple is =
+    let at_0 = joined_parts _ _ tuple is in
+    let at_1 = joined_parts _ _ tuple.1 at_0.1 in
+    let at_2 = joined_parts _ _ tuple.1.1 at_1.1 in
+    let at_3 = joined_parts _ _ tuple.1.1.1 at_2.1 in
+    record { filter = at_0.0; platform = at_1.0; priority = at_2.0; test_group = at_3.0 }
+
+pub rule_read : (given : Members) (it : RuleValues) → rule_in given ≡ Ok it → IsRule given it
+rule_read given it is = let made = read_of rule_values (rule_tuple_in given) it is in subst (IsRule given) made.is (rule_tuple given made.values made.reads)
+
+pub rule_made : (given : Members) (it : RuleValues) → IsRule given it → rule_tuple_in given ≡ Ok (it.filter, (it.platform, (it.priority, (it.test_group, tt))))
+rule_made given it is = rw (is.filter, is.platform, is.priority, is.test_group) refl

@@ -27,7 +27,7 @@ impl ConfigKey for FilterKey {
 }
 
 impl HasKey<FilterKey> for RuleValues {
-    ghost use Rattle.nextest_config_resolution_overrides.specs.KeyByKey.{rule_read};
+    ghost use Rattle.nextest_config_resolution_overrides.specs.RuleKeys.{rule_read};
 
     ghost value = { λ it. it.filter };
 
@@ -60,7 +60,7 @@ impl ConfigKey for PlatformKey {
 }
 
 impl HasKey<PlatformKey> for RuleValues {
-    ghost use Rattle.nextest_config_resolution_overrides.specs.KeyByKey.{rule_read};
+    ghost use Rattle.nextest_config_resolution_overrides.specs.RuleKeys.{rule_read};
 
     ghost value = { λ it. it.platform };
 

@@ -47,7 +47,7 @@ impl KeyValues for OverrideConfig {
 }
 
 impl HasValues<RuleValues> for OverrideConfig {
-    ghost use Rattle.nextest_config_resolution_overrides.specs.KeyByKey.{override_read};
+    ghost use Rattle.nextest_config_resolution_overrides.specs.Overrides.{override_read};
 
     ghost values = { λ it. it.rule };
 
@@ -62,7 +62,7 @@ impl HasValues<RuleValues> for OverrideConfig {
 }
 
 impl HasValues<CommandValues> for OverrideConfig {
-    ghost use Rattle.nextest_config_resolution_overrides.specs.KeyByKey.{override_read};
+    ghost use Rattle.nextest_config_resolution_overrides.specs.Overrides.{override_read};
 
     ghost values = { λ it. it.command };
 
@@ -77,7 +77,7 @@ impl HasValues<CommandValues> for OverrideConfig {
 }
 
 impl HasValues<TestValues> for OverrideConfig {
-    ghost use Rattle.nextest_config_resolution_overrides.specs.KeyByKey.{override_read};
+    ghost use Rattle.nextest_config_resolution_overrides.specs.Overrides.{override_read};
 
     ghost values = { λ it. it.test };
 
@@ -92,7 +92,7 @@ impl HasValues<TestValues> for OverrideConfig {
 }
 
 impl HasValues<ReportValues> for OverrideConfig {
-    ghost use Rattle.nextest_config_resolution_overrides.specs.KeyByKey.{override_read};
+    ghost use Rattle.nextest_config_resolution_overrides.specs.Overrides.{override_read};
 
     ghost values = { λ it. it.report };
 

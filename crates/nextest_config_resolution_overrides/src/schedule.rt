@@ -37,7 +37,7 @@ impl HasFallback for PriorityKey {
 }
 
 impl HasKey<PriorityKey> for RuleValues {
-    ghost use Rattle.nextest_config_resolution_overrides.specs.KeyByKey.{rule_read};
+    ghost use Rattle.nextest_config_resolution_overrides.specs.RuleKeys.{rule_read};
 
     ghost value = { λ it. it.priority };
 
@@ -70,7 +70,7 @@ impl ConfigKey for TestGroupKey {
 }
 
 impl HasKey<TestGroupKey> for RuleValues {
-    ghost use Rattle.nextest_config_resolution_overrides.specs.KeyByKey.{rule_read};
+    ghost use Rattle.nextest_config_resolution_overrides.specs.RuleKeys.{rule_read};
 
     ghost value = { λ it. it.test_group };
 

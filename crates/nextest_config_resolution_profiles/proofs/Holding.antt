@@ -24,7 +24,7 @@ use Rattle.nextest_config_resolution_settings.specs.TestSettings.{AreSettings}
 use Rattle.nextest_config_resolution_settings.specs.Layers.{in_rule}
 use Rattle.nextest_config_resolution_settings.specs.declared.test_settings.TestSettings.{TestSettings}
 use Rattle.nextest_config_resolution_settings.proofs.Least.{least_is_nearest, none_is_least}
-use Rattle.nextest_config_resolution_settings.proofs.Sourced.{same_settings, same_sources}
+use Rattle.nextest_config_resolution_settings.proofs.EachSetting.{same_settings, same_sources}
 use Rattle.nextest_config_resolution_settings.proofs.Unique.{one_setting}
 use Rattle.nextest_filtering_filters.specs.Query.{Test}
 

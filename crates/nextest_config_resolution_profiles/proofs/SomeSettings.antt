@@ -31,7 +31,7 @@ use Rattle.nextest_config_resolution_settings.specs.Nearest.{Source}
 use Rattle.nextest_config_resolution_settings.specs.Rules.{AreHeld, HoldsAndSets, holds_too, left_out, none_left, profile_of, script_profile_of}
 use Rattle.nextest_config_resolution_settings.specs.Tracking.{KeepsSome}
 use Rattle.nextest_config_resolution_settings.specs.declared.default_filter.CompiledDefaultFilter.{CompiledDefaultFilter}
-use Rattle.nextest_config_resolution_settings.proofs.Some.{some_settings}
+use Rattle.nextest_config_resolution_settings.proofs.EachSetting.{some_settings}
 use Rattle.nextest_config_resolution_sources.specs.declared.source.ConfigSource.{ConfigSource}
 use Rattle.nextest_config_elements_versions.specs.declared.feature.FeatureSet.{FeatureSet}
 

@@ -19,25 +19,6 @@ junit_members =
     member (codes "store-failure-output") (boolean true) (
     member (codes "store-success-output") (boolean false) no_members))))
 
--- the values of `default` that aren't tables
-abbrev pub plain_members : Members
-plain_members =
-    member (codes "default-filter") (string (codes "all()")) (
-    member (codes "fail-fast") (boolean true) (
-    member (codes "fail-weight") (integer (pos 1)) (
-    member (codes "failure-output") (string (codes "immediate")) (
-    member (codes "final-status-level") (string (codes "flaky")) (
-    member (codes "flaky-result") (string (codes "pass")) (
-    member (codes "global-timeout") (string (codes "30y")) (
-    member (codes "leak-timeout") (string (codes "100ms")) (
-    member (codes "retries") (integer (pos 0)) (
-    member (codes "run-extra-args") (array no_items) (
-    member (codes "slow-timeout") (string (codes "60s")) (
-    member (codes "status-level") (string (codes "pass")) (
-    member (codes "success-output") (string (codes "never")) (
-    member (codes "test-threads") (string (codes "num-cpus")) (
-    member (codes "threads-required") (integer (pos 1)) no_members))))))))))))))
-
 abbrev pub default_members : Members
 default_members =
     member (codes "bench") (table bench_members) (

@@ -19,7 +19,6 @@ pub mod Laws
 pub mod Memberships
 pub mod Platforms
 pub mod Profiles
-pub mod Rows
 pub mod RuleLaws
 pub mod Selection
 pub mod Values

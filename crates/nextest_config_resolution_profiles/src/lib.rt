@@ -16,7 +16,6 @@ pub mod laws;
 mod memberships;
 mod platforms;
 mod profile_error;
-mod rows;
 mod rules;
 mod selection;
 mod store_dir;

@@ -1,3 +1,4 @@
+pub mod EachSetting
 pub mod Least
 pub mod Searching
 pub mod Some

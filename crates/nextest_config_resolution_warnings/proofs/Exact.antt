@@ -5,9 +5,9 @@ use Rattle.std.specs.List.{Contains}
 use Rattle.toml.specs.Data.{Data, is_sorted}
 use Rattle.nextest_config_elements_toml.specs.Reading.{Path}
 use Rattle.nextest_config_resolution_warnings.specs.Laws.{FindsUnknown}
+use Rattle.nextest_config_resolution_warnings.specs.Places.{Place}
 use Rattle.nextest_config_resolution_warnings.specs.Standing.{IsUnknownAt, Lead, StandsAt, place_at}
 use Rattle.nextest_config_resolution_warnings.specs.Unknown.{unknown_in}
-use Rattle.nextest_config_resolution_warnings.specs.declared.place.Place.{Place}
 use Rattle.nextest_config_resolution_warnings.proofs.Standing.{Among, Begins, begins, finds, found_there}
 
 -- ---- what is found stands there

@@ -11,11 +11,10 @@ use Rattle.std.specs.Prelude.{⊤}
 use Rattle.toml.specs.Data.{Data, string, integer, float, boolean, datetime, array, table, Items, no_items, item, Members, no_members, member, get_item, get_member, is_before, is_sorted, items_are_sorted, members_are_sorted}
 use Rattle.nextest_config_elements_toml.specs.Reading.{Path}
 use Rattle.nextest_config_resolution_warnings.specs.Laws.{FindsInOrder, FindsOnce}
-use Rattle.nextest_config_resolution_warnings.specs.Places.{Keys, place_of, keys_in, items_at}
+use Rattle.nextest_config_resolution_warnings.specs.Places.{Place, Keys, place_of, keys_in, items_at}
 use Rattle.nextest_config_resolution_warnings.specs.ShortLists.{HasShortLists, ItemsHaveShortLists, MembersHaveShortLists}
 use Rattle.nextest_config_resolution_warnings.specs.Standing.{ComesBefore, StandsAt}
 use Rattle.nextest_config_resolution_warnings.specs.Unknown.{behind, unknown_in, unknown_items, unknown_members}
-use Rattle.nextest_config_resolution_warnings.specs.declared.place.Place.{Place}
 use Rattle.nextest_config_resolution_warnings.proofs.Standing.{Among, among_behind, among_either, first_before, first_stands, found_there, greater_behind, in_list, in_table, key_cmp, stands_behind}
 use Rattle.nextest_config_resolution_warnings.proofs.Exact.{among_contains}
 

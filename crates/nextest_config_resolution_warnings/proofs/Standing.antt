@@ -9,10 +9,9 @@ use Rattle.std.specs.Option.{option_map_or}
 use Rattle.std.specs.Prelude.{⊤}
 use Rattle.toml.specs.Data.{Data, string, integer, float, boolean, datetime, array, table, Items, no_items, item, Members, no_members, member, get_item, get_member, is_before, is_sorted, items_are_sorted, members_are_sorted}
 use Rattle.nextest_config_elements_toml.specs.Reading.{Path}
-use Rattle.nextest_config_resolution_warnings.specs.Places.{Keys, place_of, keys_in, items_at}
+use Rattle.nextest_config_resolution_warnings.specs.Places.{Place, Keys, place_of, keys_in, items_at}
 use Rattle.nextest_config_resolution_warnings.specs.Standing.{StandsAt, place_at}
 use Rattle.nextest_config_resolution_warnings.specs.Unknown.{behind, unknown_in, unknown_items, unknown_members}
-use Rattle.nextest_config_resolution_warnings.specs.declared.place.Place.{Place}
 
 -- ---- elements of lists
 

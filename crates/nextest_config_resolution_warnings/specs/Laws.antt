@@ -3,9 +3,9 @@ use Rattle.std.specs.Prelude.{◌≡◌, ◌≢◌, ◌↔◌, true, AllPairs, C
 use Rattle.toml.specs.Data.{Data, is_sorted}
 use Rattle.nextest_config_elements_toml.specs.Reading.{Path}
 use Rattle.nextest_config_resolution_warnings.specs.ShortLists.{HasShortLists}
+use Rattle.nextest_config_resolution_warnings.specs.Places.{Place}
 use Rattle.nextest_config_resolution_warnings.specs.Standing.{ComesBefore, IsUnknownAt}
 use Rattle.nextest_config_resolution_warnings.specs.Unknown.{unknown_in}
-use Rattle.nextest_config_resolution_warnings.specs.declared.place.Place.{Place}
 
 -- what may not stand in a value is found exactly where it stands
 abbrev pub FindsUnknown : Type 0

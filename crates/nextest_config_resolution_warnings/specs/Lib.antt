@@ -1,6 +1,7 @@
 pub mod Kept
 pub mod Keys
 pub mod Laws
+pub mod Listed
 pub mod Places
 pub mod Reserved
 pub mod Scripts

@@ -5,8 +5,7 @@ use Rattle.std.specs.Ordering.{nat_cmp}
 use Rattle.std.specs.declared.cmp.Ordering.TheVariants.{Less}
 use Rattle.toml.specs.Data.{Data, table, get, at}
 use Rattle.nextest_config_elements_toml.specs.Reading.{Path}
-use Rattle.nextest_config_resolution_warnings.specs.Places.{place_of, keys_in, items_at}
-use Rattle.nextest_config_resolution_warnings.specs.declared.place.Place.{Place}
+use Rattle.nextest_config_resolution_warnings.specs.Places.{Place, place_of, keys_in, items_at}
 
 -- a value stands at a key of a table, or at a position of a list
 abbrev pub StandsAt : List ℕ → Data → Data → Type 0

@@ -4,9 +4,8 @@ use Rattle.std.specs.Option.{option_map_or}
 use Rattle.toml.specs.Data.{Data, table, array, Items, no_items, item, Members, no_members, member}
 use Rattle.nextest_config_elements_toml.specs.Reading.{Path}
 use Rattle.nextest_config_elements_toml.specs.declared.key_path.KeyPath.{KeyPath}
-use Rattle.nextest_config_resolution_warnings.specs.Places.{Keys, place_of, keys_in, items_at}
-use Rattle.nextest_config_resolution_warnings.specs.declared.place.Place.{Place}
-use Rattle.nextest_config_resolution_warnings.specs.declared.place.Place.TheVariants.{Top}
+use Rattle.nextest_config_resolution_warnings.specs.Places.{Place, kind, Keys, place_of, keys_in, items_at}
+use Rattle.nextest_config_resolution_warnings.specs.declared.kind.Kind.TheVariants.{Top}
 
 -- paths, each behind a key
 abbrev pub behind : List ℕ → List Path → List Path
@@ -35,4 +34,4 @@ key_path path = record { keys = path }
 
 -- the paths of what may not stand in a file
 abbrev pub unknown_keys : Members → List KeyPath
-unknown_keys members = map key_path (unknown_in Top (table members))
+unknown_keys members = map key_path (unknown_in (kind Top) (table members))

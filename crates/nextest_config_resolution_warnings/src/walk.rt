@@ -1,13 +1,13 @@
 // How a file is walked through.
 ghost use Rattle.std.specs.Prelude.{◌≡◌, ◌++◌, [], ◌∷◌, IfOk};
-ghost use Rattle.std.specs.Option.{option_map_or};
+ghost use Rattle.std.specs.Option.{option_map, option_map_or};
 ghost use Rattle.toml.specs.View.{view, array_view, table_view};
-ghost use Rattle.nextest_config_resolution_warnings.specs.Keys.{keys_of};
+ghost use Rattle.nextest_config_resolution_warnings.specs.Keys.{keys_of, place_seen};
 ghost use Rattle.nextest_config_resolution_warnings.specs.Steps.{path_of, paths_below};
 ghost use Rattle.nextest_config_resolution_warnings.specs.Unknown.{key_path, unknown_in, unknown_items, unknown_keys, unknown_members};
 
-use crate::keys::{Keys, items_at, keys_in, place_of};
-use crate::place::Place;
+use crate::keys::{Keys, Place, items_at, keys_in, place_of};
+use crate::kind::Kind;
 use crate::step::{KeyStep, key_path};
 use nextest_config_elements_toml::KeyPath;
 use nextest_text::Listing;
@@ -21,11 +21,11 @@ pub(crate) fn walk<'a>(
     alloc: Global,
     steps: &mut Vec<KeyStep<'a>>,
     found: &mut Listing<KeyPath>,
-    place: Place,
+    place: Place<'a>,
     value: &'a Value,
 ) -> Result<(), AllocError>
-    ensures found { IfOk result (λ _.
-        found.new ≡ found.old ++ paths_below steps.old.items (unknown_in place (view value.now))) }
+    ensures found { IfOk result (λ _. found.new ≡ found.old
+        ++ paths_below steps.old.items (unknown_in (place_seen place.entry) (view value.now))) }
     ensures steps { IfOk result (λ _. steps.new.items ≡ steps.old.items) }
 {
     match value {
@@ -41,11 +41,11 @@ fn walk_table<'a>(
     alloc: Global,
     steps: &mut Vec<KeyStep<'a>>,
     found: &mut Listing<KeyPath>,
-    keys: Keys,
+    keys: Keys<'a>,
     table: &'a Table,
 ) -> Result<(), AllocError>
-    ensures found { IfOk result (λ _. found.new ≡ found.old
-        ++ paths_below steps.old.items (unknown_members (keys_of keys) (table_view table.now))) }
+    ensures found { IfOk result (λ _. found.new ≡ found.old ++ paths_below steps.old.items
+        (unknown_members (keys_of keys.entry) (table_view table.now))) }
     ensures steps { IfOk result (λ _. steps.new.items ≡ steps.old.items) }
 {
     'members: for (key, member) in table.iter() {
@@ -63,11 +63,12 @@ fn walk_member<'a>(
     alloc: Global,
     steps: &mut Vec<KeyStep<'a>>,
     found: &mut Listing<KeyPath>,
-    place: Option<Place>,
+    place: Option<Place<'a>>,
     value: &'a Value,
 ) -> Result<(), AllocError>
     ensures found { IfOk result (λ _. found.new ≡ found.old ++ paths_below steps.old.items
-        (option_map_or (λ it. unknown_in it (view value.now)) place ([] ∷ []))) }
+        (option_map_or (λ it. unknown_in it (view value.now))
+        (option_map place_seen place.entry) ([] ∷ []))) }
     ensures steps { IfOk result (λ _. steps.new.items ≡ steps.old.items) }
 {
     match place {
@@ -82,11 +83,11 @@ fn walk_items<'a>(
     alloc: Global,
     steps: &mut Vec<KeyStep<'a>>,
     found: &mut Listing<KeyPath>,
-    place: Place,
+    place: Place<'a>,
     items: &'a Array,
 ) -> Result<(), AllocError>
-    ensures found { IfOk result (λ _. found.new
-        ≡ found.old ++ paths_below steps.old.items (unknown_items place 0 (array_view items.now))) }
+    ensures found { IfOk result (λ _. found.new ≡ found.old ++ paths_below steps.old.items
+        (unknown_items (place_seen place.entry) 0 (array_view items.now))) }
     ensures steps { IfOk result (λ _. steps.new.items ≡ steps.old.items) }
 {
     'items: for (position, item) in items.iter().enumerate() {
@@ -118,5 +119,11 @@ pub(crate) fn walk_file(
     ensures { IfOk result (λ _. found.new ≡ found.old ++ unknown_keys (table_view file.now)) }
 {
     let mut steps = Vec::new(alloc);
-    walk_table(alloc, &mut steps, found, keys_in(Place::Top, file), file)
+    walk_table(
+        alloc,
+        &mut steps,
+        found,
+        keys_in(Place::Kind(Kind::Top), file),
+        file,
+    )
 }

@@ -35,7 +35,8 @@ use Rattle.nextest_config_resolution_settings.specs.TestSettings.{AreSettings}
 use Rattle.nextest_config_resolution_settings.specs.Tracking.{TellsNothing}
 use Rattle.nextest_config_resolution_settings.specs.declared.test_settings.TestSettings.{TestSettings}
 use Rattle.nextest_config_resolution_settings.proofs.Least.{one_least}
-use Rattle.nextest_config_resolution_settings.proofs.Sourced.{one_value, same_settings}
+use Rattle.nextest_config_resolution_settings.proofs.EachSetting.{same_settings}
+use Rattle.nextest_config_resolution_settings.proofs.Sourced.{one_value}
 use Rattle.nextest_config_resolution_settings.proofs.Unique.{one_nearest}
 use Rattle.nextest_config_resolution_keys.specs.File.{Named}
 use Rattle.nextest_config_resolution_keys.specs.declared.profile_config.ProfileConfig.{ProfileConfig}

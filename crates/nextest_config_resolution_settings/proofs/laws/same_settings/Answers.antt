@@ -1,5 +1,4 @@
-use Rattle.nextest_config_resolution_settings.proofs.Some.{some_settings}
-use Rattle.nextest_config_resolution_settings.proofs.Sourced.{same_settings, same_sources}
+use Rattle.nextest_config_resolution_settings.proofs.EachSetting.{same_settings, same_sources, some_settings}
 use Rattle.nextest_config_resolution_settings.proofs.laws.same_settings.Goals as goal
 
 pub returns : goal.returns

@@ -1,8 +1,9 @@
 // What stands at a place of a configuration file.
+use crate::listed::Listed;
 
 /// What stands at a place of a configuration file.
 #[derive(Clone, Copy, Debug, PartialEq, Eq)]
-pub enum Place {
+pub enum Kind {
     /// The whole file.
     Top,
     /// Which versions the file asks for.
@@ -11,8 +12,8 @@ pub enum Place {
     Store,
     /// The profiles, by their names.
     Profiles,
-    /// A profile.
-    Profile,
+    /// A table whose keys are in a list.
+    Listed(Listed),
     /// When failing tests stop a run.
     FailFast,
     /// How failing tests are tried again.
@@ -23,24 +24,10 @@ pub enum Place {
     SlowTimeout,
     /// How long handles may stay open.
     LeakTimeout,
-    /// What a profile sets for benchmarks.
-    ProfileBench,
-    /// The JUnit report of a profile.
-    ProfileJunit,
     /// What is set for some tests of a profile: a list.
     Overrides,
-    /// One of them.
-    Override,
-    /// The platforms that something holds for.
-    Platform,
-    /// What is set for some benchmarks.
-    OverrideBench,
-    /// What a JUnit report has of some tests.
-    OverrideJunit,
     /// The scripts that tests of a profile need: a list.
     ScriptRules,
-    /// One of them.
-    ScriptRule,
     /// The groups of tests, by their names.
     TestGroups,
     /// A group of tests.
