@@ -30,6 +30,7 @@ use Rattle.nextest_config_resolution_keys.specs.Run as run_key
 use Rattle.nextest_config_resolution_settings.specs.Nearest.{SetsNone}
 use Rattle.nextest_config_resolution_settings.specs.Rules.{AreHeld, HoldsAndSets, IsLeast, NoneHoldsAndSets}
 use Rattle.nextest_config_resolution_settings.specs.Tracking.{TellsNothing, nothing_kept}
+use Rattle.nextest_config_resolution_settings.proofs.EachSetting as each
 use Rattle.nextest_config_resolution_settings.proofs.Some as settings
 use Rattle.nextest_config_resolution_keys.specs.File.{Named, default_filter_in}
 use Rattle.nextest_config_resolution_keys.specs.declared.profile_config.ProfileConfig.{ProfileConfig}
@@ -198,7 +199,7 @@ module _ (cx : Context) (inputs : Inputs) (config : Whole Filterset PlatformSpec
       let mapped = held_mapped placed_of (Holds HasOnTest filter test) (RuleHolds cx platforms tree test) (rules_alike conditions_of cx platforms filter tree some_default.read.3 test rules read) held.1 in
       let scripts_mapped = held_mapped placed_of (Holds HasOnTest filter test) (ScriptRuleHolds cx platforms tree test)
       (rules_alike script_conditions_of cx platforms filter tree some_default.read.3 test scripts scripts_read) held_scripts.1 in
-      let lent = settings.some_settings TellsNothing nothing_kept inputs.mode (layers_of profile_of_chain (map placed_of held.0) (map placed_of held_scripts.0)) in (
+      let lent = each.some_settings TellsNothing nothing_kept inputs.mode (layers_of profile_of_chain (map placed_of held.0) (map placed_of held_scripts.0)) in (
         owned_of lent.0,
         record {
           profile = profile_of_chain;
